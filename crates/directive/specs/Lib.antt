@@ -1,0 +1,3 @@
+pub mod Selection
+pub mod Matching
+pub mod Form

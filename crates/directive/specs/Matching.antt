@@ -1,0 +1,45 @@
+-- When a directive matches a request.
+use Prim.Native.Nat.{ℕ}
+use mathlib.Core.Bool.{Bool, _&&_}
+use mathlib.Core.List.{List}
+use lib.Dec.{eqb, leb, ltb}
+use Rattle.sets.specs.Bits.{bit}
+use Rattle.register.specs.Register.{Contents}
+use Rattle.register.specs.Roles.{covers}
+use Rattle.directive.specs.declared.Subject.{Subject}
+use Rattle.directive.specs.declared.Subject.the-variants.{Person, Role}
+use Rattle.directive.specs.declared.Directive.{Directive}
+use Rattle.directive.specs.declared.Request.{Request}
+use Rattle.directive.specs.declared.Query.{Query}
+use Rattle.directive.specs.Selection.{selects}
+
+-- "The subject is either one person or one role with all roles that it covers": it covers person p in role r.
+abbrev pub subjectCovers : List ℕ → Subject → ℕ → ℕ → Bool
+subjectCovers roles (Person n) p r = eqb n p
+subjectCovers roles (Role n) p r = covers roles n r
+
+-- from <= minute < until
+abbrev pub inMinutes : ℕ → ℕ → ℕ → Bool
+inMinutes from until m = leb from m && ltb m until
+
+-- "A directive matches it when subject, subject origins and purposes cover it, the record is selected, and
+-- from <= minute < until."
+unfoldable pub matches : Contents → Directive → Request → Bool
+matches c d q =
+    subjectCovers (c .roles) (d .subject) (q .person) (q .role)
+    && bit (q .origin) (d .«subject_origins»)
+    && bit (q .purpose) (d .purposes)
+    && selects (c .records) d (q .«record»)
+    && inMinutes (d .from) (d .until) (q .minute)
+
+-- the request that a query is at a minute
+abbrev pub requestAt : Query → ℕ → Request
+requestAt q m =
+    record {
+      person = q .person;
+      role = q .role;
+      origin = q .origin;
+      «record» = q .«record»;
+      purpose = q .purpose;
+      minute = m;
+    }

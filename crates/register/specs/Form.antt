@@ -1,0 +1,38 @@
+-- The ten bytes of a record.
+use Prim.Native.Nat.{ℕ}
+use mathlib.Core.Bool.{Bool, _&&_}
+use mathlib.Core.List.{List, _++_}
+use lib.Dec.{leb}
+use Rattle.sets.specs.Bits.{nonEmpty}
+use Rattle.sets.specs.Numbers.{numberAt, bytes}
+use Rattle.register.specs.declared.Record.{Record}
+use Rattle.register.specs.Tree.{parentFits}
+
+-- "parent 1 (record 0 has 0), author 2, origins 2, sensitivities 2, type 1, labels 2"
+abbrev pub recordSize : ℕ
+recordSize = 10
+
+unfoldable pub recordOf : List ℕ → Record
+recordOf s =
+    record {
+      parent = numberAt 0 1 s;
+      author = numberAt 1 2 s;
+      origins = numberAt 3 2 s;
+      sensitivities = numberAt 5 2 s;
+      kind = numberAt 7 1 s;
+      labels = numberAt 8 2 s;
+    }
+
+unfoldable pub recordBytes : Record → List ℕ
+recordBytes r =
+    bytes 1 (r .parent)
+    ++ bytes 2 (r .author)
+    ++ bytes 2 (r .origins)
+    ++ bytes 2 (r .sensitivities)
+    ++ bytes 1 (r .kind)
+    ++ bytes 2 (r .labels)
+
+-- the ranges of record x: "origins (16-bit set, not empty), sensitivities (16-bit set, not empty), a type 0..7"
+unfoldable pub recordFits : ℕ → Record → Bool
+recordFits x r =
+    parentFits x (r .parent) && nonEmpty (r .origins) && nonEmpty (r .sensitivities) && leb (r .kind) 7

@@ -1,0 +1,5 @@
+pub mod Register
+pub mod Tree
+pub mod Roles
+pub mod Records
+pub mod Form

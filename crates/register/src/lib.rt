@@ -1,0 +1,50 @@
+// The register: roles and records, each with a parent of lower number.
+ghost use mathlib.Core.Path.{_≡_};
+ghost use Rattle.register.specs.Register.{noRecord, emptyRegister};
+
+pub struct Record {
+    pub parent: u8,
+    pub author: u16,
+    pub origins: u16,
+    pub sensitivities: u16,
+    // document 01: type
+    pub kind: u8,
+    pub labels: u16,
+}
+
+// The parents of the roles and the records; what stands past the two counts has no meaning.
+pub struct Register {
+    pub roles: [u8; 16],
+    pub role_count: usize,
+    pub records: [Record; 128],
+    pub record_count: usize,
+}
+
+// What fills a place that holds no record.
+pub fn no_record() -> Record
+    ensures { λ r. ⌜ r ≡ noRecord ⌝ }
+{
+    Record {
+        parent: 0,
+        author: 0,
+        origins: 0,
+        sensitivities: 0,
+        kind: 0,
+        labels: 0,
+    }
+}
+
+// No roles and no records.
+pub fn empty_register() -> Register
+    ensures { λ g. ⌜ g ≡ emptyRegister ⌝ }
+{
+    let r = no_record();
+    let records = [r; 128];
+    let roles = [0u8; 16];
+    Register {
+        roles: roles,
+        role_count: 0,
+        records: records,
+        record_count: 0,
+    }
+}

@@ -1,0 +1,3 @@
+pub mod Requests
+pub mod Meaning
+pub mod Search

@@ -1,0 +1,1 @@
+// Validation of a directive against the active ones: conflict, baseline and redundancy.
