@@ -5,7 +5,7 @@ use mathlib.Core.List.{List, _++_}
 use lib.ListN.{take, drop}
 use lib.Dec.{eqb, leb}
 use Rattle.sets.specs.Quantifiers.{pick, one}
-use Rattle.sets.specs.Bits.{subset, nonEmpty}
+use Rattle.sets.specs.Bits.{subset, nonEmpty, inBits, isSet}
 use Rattle.sets.specs.Numbers.{numberAt, bytes}
 use Rattle.directive.specs.declared.Subject.{Subject}
 use Rattle.directive.specs.declared.Subject.the-variants.{Person, Role}
@@ -119,6 +119,21 @@ directiveBytes d =
     ++ bytes 2 (d .purposes)
     ++ bytes 4 (d .from)
     ++ bytes 4 (d .until)
+
+-- The directives that drafts within the ranges of question 7 mean.
+unfoldable pub wellFormed : Directive → Bool
+wellFormed d =
+    inBits 16 (d .number)
+    && inBits 16 (numberOf (d .subject))
+    && isSet 16 (d .«subject_origins»)
+    && inBits 8 (d .«record»)
+    && leb (d .reach) 2
+    && isSet 16 (d .origins)
+    && isSet 16 (d .sensitivities)
+    && isSet 8 (d .kinds)
+    && isSet 11 (d .purposes)
+    && inBits 32 (d .from)
+    && inBits 32 (d .until)
 
 -- what stands where there is no directive
 abbrev pub noDirective : Directive

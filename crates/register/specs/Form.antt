@@ -3,7 +3,7 @@ use Prim.Native.Nat.{ℕ}
 use mathlib.Core.Bool.{Bool, _&&_}
 use mathlib.Core.List.{List, _++_}
 use lib.Dec.{leb}
-use Rattle.sets.specs.Bits.{nonEmpty}
+use Rattle.sets.specs.Bits.{nonEmpty, inBits}
 use Rattle.sets.specs.Numbers.{numberAt, bytes}
 use Rattle.register.specs.declared.Record.{Record}
 use Rattle.register.specs.Tree.{parentFits}
@@ -36,3 +36,13 @@ recordBytes r =
 unfoldable pub recordFits : ℕ → Record → Bool
 recordFits x r =
     parentFits x (r .parent) && nonEmpty (r .origins) && nonEmpty (r .sensitivities) && leb (r .kind) 7
+
+-- its numbers are of the widths that they have in ten bytes
+unfoldable pub recordWidths : Record → Bool
+recordWidths r =
+    inBits 8 (r .parent)
+    && inBits 16 (r .author)
+    && inBits 16 (r .origins)
+    && inBits 16 (r .sensitivities)
+    && inBits 8 (r .kind)
+    && inBits 16 (r .labels)

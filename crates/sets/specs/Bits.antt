@@ -24,3 +24,11 @@ setOf (suc n) p = setOf n p + one (p n) * 2 ^ n
 -- a set is empty where its number is 0
 abbrev pub nonEmpty : ℕ → Bool
 nonEmpty a = ltb 0 a
+
+-- v is a number of n bits
+abbrev pub inBits : ℕ → ℕ → Bool
+inBits n v = ltb v (2 ^ n)
+
+-- a is a set of numbers below n that is not empty
+abbrev pub isSet : ℕ → ℕ → Bool
+isSet n a = nonEmpty a && inBits n a

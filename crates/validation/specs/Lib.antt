@@ -1,3 +1,4 @@
 pub mod Requests
 pub mod Meaning
 pub mod Search
+pub mod Judgement

@@ -1,0 +1,5 @@
+pub mod Answer
+pub mod Grammar
+pub mod Reading
+pub mod Writing
+pub mod Promises

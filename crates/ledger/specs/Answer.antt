@@ -1,0 +1,84 @@
+-- Answers in document 01's numbers and values, and what each case of the answers' enums means.
+use Prim.Native.Nat.{ℕ}
+use mathlib.Core.Bool.{Bool, true, false}
+use mathlib.Core.List.{List, [], _∷_}
+use Rattle.sets.specs.Quantifiers.{one}
+use Rattle.ledger.specs.declared.answer.Brief.{Brief}
+use Rattle.ledger.specs.declared.answer.DirectiveRefusal.{DirectiveRefusal}
+use Rattle.ledger.specs.declared.answer.DirectiveRefusal.the-variants as Directive
+use Rattle.ledger.specs.declared.answer.CommitAnswer.{CommitAnswer}
+use Rattle.ledger.specs.declared.answer.CommitAnswer.the-variants as Commit
+use Rattle.ledger.specs.declared.answer.RevokeAnswer.{RevokeAnswer}
+use Rattle.ledger.specs.declared.answer.RevokeAnswer.the-variants as Revoke
+use Rattle.ledger.specs.declared.answer.AdvanceAnswer.{AdvanceAnswer}
+use Rattle.ledger.specs.declared.answer.AdvanceAnswer.the-variants as Advance
+use Rattle.ledger.specs.declared.answer.IssueAnswer.{IssueAnswer}
+use Rattle.ledger.specs.declared.answer.IssueAnswer.the-variants as Issue
+use Rattle.ledger.specs.declared.answer.BriefAnswer.{BriefAnswer}
+use Rattle.ledger.specs.declared.answer.BriefAnswer.the-variants as BriefCase
+use Rattle.ledger.specs.declared.answer.DecideAnswer.{DecideAnswer}
+use Rattle.ledger.specs.declared.answer.DecideAnswer.the-variants as Decide
+
+-- Success with its values, or the number of the first question missed with what it adds.
+pub data Answer : Type 0 where
+  done : List ℕ → Answer
+  refused : ℕ → List ℕ → Answer
+
+-- the call succeeded
+abbrev pub accepted : Answer → Bool
+accepted (done vs) = true
+accepted (refused n vs) = false
+
+-- the number of the question missed, 0 for none
+abbrev pub refusal : Answer → ℕ
+refusal (done vs) = 0
+refusal (refused n vs) = n
+
+-- what a success reports
+abbrev pub values : Answer → List ℕ
+values (done vs) = vs
+values (refused n vs) = []
+
+abbrev pub directiveAnswer : DirectiveRefusal → Answer
+directiveAnswer Directive.OutOfRange = refused 7 []
+directiveAnswer Directive.NotInRegister = refused 8 []
+directiveAnswer Directive.NoMinutes = refused 9 []
+directiveAnswer Directive.NumberTaken = refused 10 []
+directiveAnswer Directive.ListFull = refused 11 []
+directiveAnswer Directive.BreaksBaseline = refused 12 []
+directiveAnswer (Directive.Conflicts n) = refused 13 (n ∷ [])
+
+abbrev pub commitAnswer : CommitAnswer → Answer
+commitAnswer Commit.Committed = done []
+commitAnswer Commit.WrongLength = refused 6 []
+commitAnswer (Commit.Refused r) = directiveAnswer r
+commitAnswer Commit.Redundant = refused 14 []
+
+abbrev pub revokeAnswer : RevokeAnswer → Answer
+revokeAnswer Revoke.Revoked = done []
+revokeAnswer Revoke.NotActive = refused 15 []
+
+-- both counts of dropped ones
+abbrev pub advanceAnswer : AdvanceAnswer → Answer
+advanceAnswer (Advance.Advanced directives tokens) = done (directives ∷ tokens ∷ [])
+advanceAnswer Advance.BeforeClock = refused 16 []
+
+abbrev pub issueAnswer : IssueAnswer → Answer
+issueAnswer Issue.Issued = done []
+issueAnswer Issue.NoState = refused 18 []
+issueAnswer Issue.WrongMinutes = refused 19 []
+issueAnswer Issue.NumberTaken = refused 20 []
+issueAnswer Issue.TokensFull = refused 21 []
+
+-- the two words and the count
+abbrev pub briefAnswer : BriefAnswer → Answer
+briefAnswer (BriefCase.Disclosed b) = done (b .low ∷ b .high ∷ b .count ∷ [])
+briefAnswer BriefCase.NoToken = refused 22 []
+
+-- effect (1 permit, 0 deny), basis, and the number with basis 3
+abbrev pub decideAnswer : DecideAnswer → Answer
+decideAnswer Decide.Patient = done (1 ∷ 1 ∷ [])
+decideAnswer Decide.Author = done (1 ∷ 2 ∷ [])
+decideAnswer (Decide.Directive permit number) = done (one permit ∷ 3 ∷ number ∷ [])
+decideAnswer (Decide.Default permit) = done (one permit ∷ 4 ∷ [])
+decideAnswer Decide.NotInRegister = refused 17 []

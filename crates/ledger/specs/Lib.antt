@@ -1,0 +1,11 @@
+pub mod Model
+pub mod Answer
+pub mod Emergency
+pub mod Decision
+pub mod Xacml
+pub mod Questions
+pub mod Calls
+pub mod Beside
+pub mod Sound
+pub mod Promises
+pub mod Cases

@@ -1,0 +1,52 @@
+-- What the ledger's calls promise. On a ledger that is not sound a call ends and its answer is free, so each promise is an
+-- implication from `Sound`. On a sound ledger the answer and the view after it are the reference model's; a refusal gives
+-- back the ledger itself; what stands past a count of the ledger after a success is free.
+use Prim.Native.Nat.{ℕ}
+use mathlib.Core.Path.{_≡_}
+use mathlib.Core.Bool.{false}
+use mathlib.Core.List.{List}
+use Rattle.directive.specs.declared.Query.{Query}
+use Rattle.ledger.specs.declared.Ledger.{Ledger}
+use Rattle.ledger.specs.declared.answer.CommitResult.{CommitResult}
+use Rattle.ledger.specs.declared.answer.RevokeResult.{RevokeResult}
+use Rattle.ledger.specs.declared.answer.AdvanceResult.{AdvanceResult}
+use Rattle.ledger.specs.declared.answer.IssueResult.{IssueResult}
+use Rattle.ledger.specs.declared.answer.BriefAnswer.{BriefAnswer}
+use Rattle.ledger.specs.declared.answer.DecideAnswer.{DecideAnswer}
+use Rattle.ledger.specs.Model.{view}
+use Rattle.ledger.specs.Answer.{Answer, accepted, commitAnswer, revokeAnswer, advanceAnswer, issueAnswer, briefAnswer, decideAnswer}
+use Rattle.ledger.specs.Questions.{Outcome}
+use Rattle.ledger.specs.Calls.{committed, revoked, advanced, issued, decided, briefed}
+use Rattle.ledger.specs.Sound.{Sound}
+
+-- The answer a and the ledger `after` are those of the outcome o; after a refusal the ledger is l itself.
+pub record Gives (l : Ledger) (o : Outcome) (a : Answer) (after : Ledger) : Type 0 where
+  pub answer : a ≡ o .answer
+  pub ledger : view after ≡ o .model
+  pub unchanged : accepted a ≡ false → after ≡ l
+  pub sound : Sound after
+
+-- commit of a draft's bytes s
+abbrev pub Commits : Ledger → List ℕ → CommitResult → Type 0
+Commits l s r = Sound l → Gives l (committed (view l) s) (commitAnswer (r .answer)) (r .ledger)
+
+-- revoke of the number n
+abbrev pub Revokes : Ledger → ℕ → RevokeResult → Type 0
+Revokes l n r = Sound l → Gives l (revoked (view l) n) (revokeAnswer (r .answer)) (r .ledger)
+
+-- advance to the minute t
+abbrev pub Advances : Ledger → ℕ → AdvanceResult → Type 0
+Advances l t r = Sound l → Gives l (advanced (view l) t) (advanceAnswer (r .answer)) (r .ledger)
+
+-- issue of a token: number, person, state set, length in minutes
+abbrev pub Issues : Ledger → ℕ → ℕ → ℕ → ℕ → IssueResult → Type 0
+Issues l n p states minutes r =
+    Sound l → Gives l (issued (view l) n p states minutes) (issueAnswer (r .answer)) (r .ledger)
+
+-- The calls that change nothing give their answer alone.
+abbrev pub Decides : Ledger → Query → DecideAnswer → Type 0
+Decides l q a = Sound l → decideAnswer a ≡ decided (view l) q
+
+-- brief for a token's number and a person
+abbrev pub Briefs : Ledger → ℕ → ℕ → BriefAnswer → Type 0
+Briefs l n p a = Sound l → briefAnswer a ≡ briefed (view l) n p

@@ -1,0 +1,169 @@
+-- A deny breaks the baseline exactly where the search finds that it does.
+use Prim.Native.Nat.{ℕ, _<_, _≤_}
+use mathlib.Core.Path.{_≡_, refl, ap, ap₂, _∙_}
+use mathlib.Core.Bool.{true, false, _&&_, _||_, not, and-false}
+use mathlib.Core.Logic.{_⊎_, inl, inr, ⊎-elim}
+use native.Mathlib.Omega.{arith}
+use borrow.Author.Tests.{not-true, eqb-true, eq-eqb, ltb-true, lt-ltb}
+use lib.ListN.{length}
+use lib.Dec.{eqb, ltb}
+use Rattle.sets.specs.Quantifiers.{someBelow}
+use Rattle.sets.proofs.Quantifiers.{both-ways, and-both, or-cases, or-right, some-below, some-of}
+use Rattle.register.specs.Register.{Contents}
+use Rattle.register.specs.Records.{recordAt}
+use Rattle.directive.specs.declared.Subject.{Subject}
+use Rattle.directive.specs.declared.Subject.the-variants.{Person, Role}
+use Rattle.directive.specs.declared.Directive.{Directive}
+use Rattle.directive.specs.declared.Request.{Request}
+use Rattle.directive.specs.Selection.{selects}
+use Rattle.directive.specs.Matching.{matches}
+use Rattle.directive.proofs.Matching.{matches-read, matches-make, matches-named}
+use Rattle.validation.specs.Requests.{origins, purposes, request, InRange}
+use Rattle.validation.specs.Meaning.{hasBaseline, breaksFor, breaksBaseline}
+use Rattle.validation.specs.Search.{fromOrigin, forPurpose, start, breaksForFound, breaksBaselineFound, Fit}
+use Rattle.validation.proofs.Requests.{some-request, in-range-earlier}
+
+-- a deny that names a person, and a request that it matches, on a record of that person's or of the patient's
+pub record Broken (c : Contents) (patient clock : ℕ) (d : Directive) : Type 0 where
+  pub deny : d .permit ≡ false
+  pub person : ℕ
+  pub named : d .subject ≡ Person person
+  pub denied : Request
+  pub in-range : InRange c clock denied
+  pub matched : matches c d denied ≡ true
+  pub baseline : (recordAt (c .records) (denied .«record») .author ≡ person) ⊎ (patient ≡ person)
+
+module _ (c : Contents) (patient : ℕ) where
+  has-baseline-read :
+      (n x : ℕ) → hasBaseline c patient n x ≡ true →
+      (recordAt (c .records) x .author ≡ n) ⊎ (patient ≡ n)
+  has-baseline-read n x e =
+      ⊎-elim
+      (λ t. inl (eqb-true _ n t))
+      (λ t. inr (eqb-true patient n t))
+      (or-cases (eqb (recordAt (c .records) x .author) n) _ e)
+
+  has-baseline-make :
+      (n x : ℕ) → (recordAt (c .records) x .author ≡ n) ⊎ (patient ≡ n) →
+      hasBaseline c patient n x ≡ true
+  has-baseline-make n x e =
+      ⊎-elim
+      (λ t. rw (eq-eqb (recordAt (c .records) x .author) n t))
+      (λ t. or-right (eqb (recordAt (c .records) x .author) n) _ (eq-eqb patient n t))
+      e
+
+  module _ (clock : ℕ) (d : Directive) where
+    breaks-read :
+        (s : Subject) → d .subject ≡ s → d .permit ≡ false → breaksFor c patient clock d s ≡ true →
+        Broken c patient clock d
+    breaks-read (Person n) named deny t =
+        let (q, h, both) = some-request c clock .read _ t in
+        let (matched, own) = and-both (matches c d q && eqb (q .person) n) _ both in
+        record {
+          deny = deny;
+          person = n;
+          named = named;
+          denied = q;
+          in-range = h;
+          matched = and-both (matches c d q) _ matched .0;
+          baseline = has-baseline-read n (q .«record») own;
+        }
+    breaks-read (Role n) named deny t = both-ways t refl
+
+    pub baseline-read : breaksBaseline c patient clock d ≡ true → Broken c patient clock d
+    unfolding breaksBaseline
+    baseline-read t =
+        let (deny, breaks) = and-both (not (d .permit)) _ t in
+        breaks-read (d .subject) refl (not-true (d .permit) deny) breaks
+
+    pub baseline-make : Broken c patient clock d → breaksBaseline c patient clock d ≡ true
+    unfolding breaksBaseline
+    baseline-make h =
+        let q = h .denied in
+        ap₂ _&&_ (ap not (h .deny))
+        (ap (breaksFor c patient clock d) (h .named)
+        ∙ some-request c clock .make _ q (h .in-range)
+        (rw (
+          h .matched,
+          eq-eqb (q .person) (h .person) (matches-named c d q (h .person) (h .named) (h .matched)),
+        )
+        (has-baseline-make (h .person) (q .«record») (h .baseline))))
+
+    -- "A deny on a role breaks nothing"
+    pub baseline-role : (n : ℕ) → d .subject ≡ Role n → breaksBaseline c patient clock d ≡ false
+    unfolding breaksBaseline
+    baseline-role n e =
+        ap (λ s. not (d .permit) && breaksFor c patient clock d s) e ∙ and-false (not (d .permit))
+
+    -- what breaks the baseline is found
+    pub baseline-found-make : Broken c patient clock d → breaksBaselineFound c patient clock d ≡ true
+    unfolding breaksBaselineFound
+    baseline-found-make h =
+        let q = h .denied in
+        let i = h .in-range in
+        let a = matches-read c d q (h .matched) in
+        ap₂ _&&_ (ap not (h .deny))
+        (ap (breaksForFound c patient clock d) (h .named)
+        ∙ rw (
+          some-of (length (c .records)) (selects (c .records) d) .make (hasBaseline c patient (h .person)) (q .«record»)
+              (i .record-in, a .selected) (has-baseline-make (h .person) (q .«record») (h .baseline)),
+          some-below origins .make (fromOrigin d) (q .origin) (i .origin-in) (a .origin),
+          some-below purposes .make (forPurpose d) (q .purpose) (i .purpose-in) (a .purpose),
+        )
+        (lt-ltb (start clock d) (d .until) (omega arith)))
+
+    module _ (a-role : 0 < length (c .roles)) (fit : Fit c d) where
+      breaks-found :
+          (s : Subject) → d .subject ≡ s → d .permit ≡ false → breaksForFound c patient clock d s ≡ true →
+          Broken c patient clock d
+      breaks-found (Person n) named deny t =
+          let (to-purpose, span) = and-both _ (ltb (start clock d) (d .until)) t in
+          let (to-origin, purpose) = and-both _ (someBelow purposes (forPurpose d)) to-purpose in
+          let (own, origin) = and-both _ (someBelow origins (fromOrigin d)) to-origin in
+          let (x, hx, baseline) = some-of _ _ .read _ own in
+          let (o, ho, from-o) = some-below origins .read _ origin in
+          let (u, hu, for-u) = some-below purposes .read _ purpose in
+          let left = ltb-true (start clock d) (d .until) span in
+          let q = request n 0 o x u (start clock d) in
+          record {
+            deny = deny;
+            person = n;
+            named = named;
+            denied = q;
+            in-range = omega (arith, fit .until-in, rw named at (fit .subject-in));
+            matched = matches-make c d q
+                (record {
+                  subject = rw named (eq-eqb n n refl);
+                  origin = from-o;
+                  purpose = for-u;
+                  selected = hx .1;
+                  begun = omega arith;
+                  not-over = omega arith;
+                });
+            baseline = has-baseline-read n x baseline;
+          }
+      breaks-found (Role n) named deny t = both-ways t refl
+
+      -- what is found is such a request, at the first minute
+      pub baseline-found-read : breaksBaselineFound c patient clock d ≡ true → Broken c patient clock d
+      unfolding breaksBaselineFound
+      baseline-found-read t =
+          let (deny, breaks) = and-both (not (d .permit)) _ t in
+          breaks-found (d .subject) refl (not-true (d .permit) deny) breaks
+
+  -- what breaks the baseline from a later minute on breaks it from an earlier on
+  pub baseline-later :
+      (clock later : ℕ) (d : Directive) → clock ≤ later →
+      breaksBaseline c patient later d ≡ true → breaksBaseline c patient clock d ≡ true
+  baseline-later clock later d before t =
+      let h = baseline-read later d t in
+      baseline-make clock d
+      (record {
+        deny = h .deny;
+        person = h .person;
+        named = h .named;
+        denied = h .denied;
+        in-range = in-range-earlier c clock later (h .denied) before (h .in-range);
+        matched = h .matched;
+        baseline = h .baseline;
+      })
