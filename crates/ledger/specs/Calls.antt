@@ -3,7 +3,7 @@
 use Prim.Native.Nat.{ℕ, _+_}
 use mathlib.Core.Bool.{Bool, _&&_, not}
 use mathlib.Core.List.{List, [], _∷_, _++_}
-use lib.Dec.{eqb, leb, ltb}
+use lib.Dec.{eqb, leb}
 use Rattle.sets.specs.Quantifiers.{keep, count}
 use Rattle.register.specs.declared.Record.{Record}
 use Rattle.directive.specs.declared.Directive.{Directive}
@@ -11,7 +11,7 @@ use Rattle.directive.specs.declared.Query.{Query}
 use Rattle.directive.specs.Form.{draftOf, directiveOf}
 use Rattle.validation.specs.Judgement.{Judgement, meant}
 use Rattle.ledger.specs.declared.Token.{Token}
-use Rattle.ledger.specs.Model.{Model, withActive, withTokens, withClock}
+use Rattle.ledger.specs.Model.{Model, withActive, withTokens}
 use Rattle.ledger.specs.Answer.{Answer, done}
 use Rattle.ledger.specs.Emergency.{briefOf}
 use Rattle.ledger.specs.Decision.{decisionValues, decision}
@@ -22,45 +22,51 @@ abbrev pub drafted : List ℕ → Directive
 drafted s = directiveOf (draftOf s)
 
 -- "commit puts its directive last"; s is the draft's bytes
+abbrev pub afterCommit : Model → List ℕ → Model
+afterCommit m s = withActive m (m .active ++ (drafted s ∷ []))
+
 unfoldable pub committedBy : Judgement → Model → List ℕ → Outcome
 committedBy j m s =
-    outcome (draftQuestions j m s) m
-    (record { answer = done []; model = withActive m (m .active ++ (drafted s ∷ [])) })
+    outcome (draftQuestions j m s) m (record { answer = done []; model = afterCommit m s })
 
 abbrev pub committed : Model → List ℕ → Outcome
 committed m s = committedBy meant m s
 
 -- "revoke takes that number out, the rest keeping their order"
+abbrev pub afterRevoke : Model → ℕ → Model
+afterRevoke m n = withActive m (keep (λ d. not (eqb (d .number) n)) (m .active))
+
 unfoldable pub revoked : Model → ℕ → Outcome
-revoked m n =
-    outcome (revokeQuestions m n) m
-    (record { answer = done []; model = withActive m (keep (λ d. not (eqb (d .number) n)) (m .active)) })
+revoked m n = outcome (revokeQuestions m n) m (record { answer = done []; model = afterRevoke m n })
 
 -- "advance sets the clock, takes out the directives and the tokens with until <= clock and answers both counts"
+abbrev pub afterAdvance : Model → ℕ → Model
+afterAdvance m t =
+    record {
+      patient = m .patient;
+      clock = t;
+      register = m .register;
+      active = keep (λ d. not (leb (d .until) t)) (m .active);
+      tokens = keep (λ k. not (leb (k .until) t)) (m .tokens);
+    }
+
+abbrev pub dropped : Model → ℕ → List ℕ
+dropped m t = count (λ d. leb (d .until) t) (m .active) ∷ count (λ k. leb (k .until) t) (m .tokens) ∷ []
+
 unfoldable pub advanced : Model → ℕ → Outcome
 advanced m t =
-    outcome (advanceQuestions m t) m
-    (record {
-      answer =
-          done (count (λ d. leb (d .until) t) (m .active) ∷ count (λ k. leb (k .until) t) (m .tokens) ∷ []);
-      model =
-          withClock
-          (withActive
-          (withTokens m (keep (λ k. ltb t (k .until)) (m .tokens)))
-          (keep (λ d. ltb t (d .until)) (m .active)))
-          t;
-    })
+    outcome (advanceQuestions m t) m (record { answer = done (dropped m t); model = afterAdvance m t })
 
 -- "issue puts its token last, until clock + length"
+abbrev pub afterIssue : Model → ℕ → ℕ → ℕ → ℕ → Model
+afterIssue m n person states minutes =
+    withTokens m
+    (m .tokens ++ (record { number = n; person = person; states = states; until = m .clock + minutes } ∷ []))
+
 unfoldable pub issued : Model → ℕ → ℕ → ℕ → ℕ → Outcome
 issued m n person states minutes =
     outcome (issueQuestions m n states minutes) m
-    (record {
-      answer = done [];
-      model =
-          withTokens m
-          (m .tokens ++ (record { number = n; person = person; states = states; until = m .clock + minutes } ∷ []));
-    })
+    (record { answer = done []; model = afterIssue m n person states minutes })
 
 -- The calls that change nothing.
 unfoldable pub decided : Model → Query → Answer
@@ -71,10 +77,12 @@ abbrev pub briefBy : List Record → List Token → List ℕ
 briefBy rs [] = []
 briefBy rs (t ∷ ts) = briefOf rs (t .states)
 
+abbrev pub briefValues : Model → ℕ → ℕ → List ℕ
+briefValues m n p =
+    briefBy (m .register .records) (keep (λ t. eqb (t .number) n && eqb (t .person) p) (m .tokens))
+
 unfoldable pub briefed : Model → ℕ → ℕ → Answer
-briefed m n p =
-    firstNo (briefQuestions m n p)
-    (done (briefBy (m .register .records) (keep (λ t. eqb (t .number) n && eqb (t .person) p) (m .tokens))))
+briefed m n p = firstNo (briefQuestions m n p) (done (briefValues m n p))
 
 -- A call of the lists that demand 3 speaks of, with its arguments: a draft's bytes; a number; a minute; a number, a person,
 -- a state set and a length.

@@ -47,16 +47,6 @@ withTokens m ts =
       tokens = ts;
     }
 
-abbrev pub withClock : Model → ℕ → Model
-withClock m t =
-    record {
-      patient = m .patient;
-      clock = t;
-      register = m .register;
-      active = m .active;
-      tokens = m .tokens;
-    }
-
 -- what stands where there is no token
 abbrev pub noToken : Token
 noToken = record { number = 0; person = 0; states = 0; until = 0 }

@@ -1,0 +1,1 @@
+// Lists of calls on the ledger of a card: the demands on the gateway, stated in specs/.
