@@ -2,7 +2,7 @@
 -- known one step at a time.
 use Prim.Native.Nat.{ℕ, zero, suc, _<_, _≤_}
 use mathlib.Core.Path.{_≡_, refl, _∙_}
-use mathlib.Core.Bool.{Bool, true, false, _&&_, _||_}
+use mathlib.Core.Bool.{true, false, _&&_, _||_}
 use mathlib.Core.Logic.{⊎-elim}
 use mathlib.Core.List.{List}
 use native.Mathlib.Omega.{arith}
@@ -11,10 +11,11 @@ use borrow.Author.Tests.{eqb-true, eq-eqb, ltb-true, lt-ltb, le-ltb}
 use lib.ListN.{length}
 use lib.Dec.{eqb, ltb}
 use Rattle.sets.proofs.Quantifiers.{never-true, both-ways, and-both, and-where, or-cases, or-right, every-below}
-use Rattle.register.specs.Tree.{parentOf, parentFits, isTree, isParent, aboveBy, isAbove}
+use Rattle.register.specs.Tree.{parentOf, isTree, isParent, aboveBy, isAbove}
 use Rattle.register.specs.Roles.{covers}
 
 module _ (ps : List ℕ) where
+  -- what stands above, by however many steps, is lower
   lower-by : (n r q : ℕ) → aboveBy n ps r q ≡ true → r < q
   unfolding aboveBy
   lower-by zero r q e = both-ways e refl

@@ -1,7 +1,7 @@
 -- A deny breaks the baseline exactly where the search finds that it does.
 use Prim.Native.Nat.{ℕ, _<_, _≤_}
 use mathlib.Core.Path.{_≡_, refl, ap, ap₂, _∙_}
-use mathlib.Core.Bool.{true, false, _&&_, _||_, not, and-false}
+use mathlib.Core.Bool.{Bool, true, false, _&&_, not, and-false}
 use mathlib.Core.Logic.{_⊎_, inl, inr, ⊎-elim}
 use native.Mathlib.Omega.{arith}
 use borrow.Author.Tests.{not-true, eqb-true, eq-eqb, ltb-true, lt-ltb}
@@ -23,7 +23,7 @@ use Rattle.validation.specs.Meaning.{hasBaseline, breaksFor, breaksBasel
 use Rattle.validation.specs.Search.{fromOrigin, forPurpose, start, breaksForFound, breaksBaselineFound, Fit}
 use Rattle.validation.proofs.Requests.{some-request, in-range-earlier}
 
--- a deny that names a person, and a request that it matches, on a record of that person's or of the patient's
+-- a deny that names a person, and a request that it matches, on a record they authored or as the patient
 pub record Broken (c : Contents) (patient clock : ℕ) (d : Directive) : Type 0 where
   pub deny : d .permit ≡ false
   pub person : ℕ
@@ -34,15 +34,6 @@ pub record Broken (c : Contents) (patient clock : ℕ) (d : Directive) : Type 0 
   pub baseline : (recordAt (c .records) (denied .«record») .author ≡ person) ⊎ (patient ≡ person)
 
 module _ (c : Contents) (patient : ℕ) where
-  has-baseline-read :
-      (n x : ℕ) → hasBaseline c patient n x ≡ true →
-      (recordAt (c .records) x .author ≡ n) ⊎ (patient ≡ n)
-  has-baseline-read n x e =
-      ⊎-elim
-      (λ t. inl (eqb-true _ n t))
-      (λ t. inr (eqb-true patient n t))
-      (or-cases (eqb (recordAt (c .records) x .author) n) _ e)
-
   has-baseline-make :
       (n x : ℕ) → (recordAt (c .records) x .author ≡ n) ⊎ (patient ≡ n) →
       hasBaseline c patient n x ≡ true
@@ -52,29 +43,44 @@ module _ (c : Contents) (patient : ℕ) where
       (λ t. or-right (eqb (recordAt (c .records) x .author) n) _ (eq-eqb patient n t))
       e
 
+  has-baseline-read :
+      (n x : ℕ) → hasBaseline c patient n x ≡ true →
+      (recordAt (c .records) x .author ≡ n) ⊎ (patient ≡ n)
+  has-baseline-read n x e =
+      ⊎-elim
+      (λ t. inl (eqb-true _ n t))
+      (λ t. inr (eqb-true patient n t))
+      (or-cases (eqb (recordAt (c .records) x .author) n) _ e)
+
   module _ (clock : ℕ) (d : Directive) where
-    breaks-read :
-        (s : Subject) → d .subject ≡ s → d .permit ≡ false → breaksFor c patient clock d s ≡ true →
-        Broken c patient clock d
-    breaks-read (Person n) named deny t =
+    -- a test of a deny and its subject that no role passes
+    named-deny :
+        (f : Subject → Bool) → ((n : ℕ) → f (Role n) ≡ false) →
+        ((n : ℕ) → d .permit ≡ false → d .subject ≡ Person n → f (Person n) ≡ true → Broken c patient clock d) →
+        not (d .permit) && f (d .subject) ≡ true → Broken c patient clock d
+    named-deny f role person t =
+        let (deny, passes) = and-both (not (d .permit)) _ t in
+        of (not-true (d .permit) deny) (d .subject) refl passes
+      where
+        of : d .permit ≡ false → (s : Subject) → d .subject ≡ s → f s ≡ true → Broken c patient clock d
+        of deny (Person n) named e = person n deny named e
+        of deny (Role n) named e = both-ways e (role n)
+
+    pub baseline-read : breaksBaseline c patient clock d ≡ true → Broken c patient clock d
+    unfolding breaksBaseline
+    baseline-read =
+        named-deny (breaksFor c patient clock d) (λ n. refl) λ n deny named t.
         let (q, h, both) = some-request c clock .read _ t in
-        let (matched, own) = and-both (matches c d q && eqb (q .person) n) _ both in
+        let (of-person, own) = and-both _ (hasBaseline c patient n (q .«record»)) both in
         record {
           deny = deny;
           person = n;
           named = named;
           denied = q;
           in-range = h;
-          matched = and-both (matches c d q) _ matched .0;
+          matched = and-both _ (eqb (q .person) n) of-person .0;
           baseline = has-baseline-read n (q .«record») own;
         }
-    breaks-read (Role n) named deny t = both-ways t refl
-
-    pub baseline-read : breaksBaseline c patient clock d ≡ true → Broken c patient clock d
-    unfolding breaksBaseline
-    baseline-read t =
-        let (deny, breaks) = and-both (not (d .permit)) _ t in
-        breaks-read (d .subject) refl (not-true (d .permit) deny) breaks
 
     pub baseline-make : Broken c patient clock d → breaksBaseline c patient clock d ≡ true
     unfolding breaksBaseline
@@ -95,28 +101,12 @@ module _ (c : Contents) (patient : ℕ) where
     baseline-role n e =
         ap (λ s. not (d .permit) && breaksFor c patient clock d s) e ∙ and-false (not (d .permit))
 
-    -- what breaks the baseline is found
-    pub baseline-found-make : Broken c patient clock d → breaksBaselineFound c patient clock d ≡ true
-    unfolding breaksBaselineFound
-    baseline-found-make h =
-        let q = h .denied in
-        let i = h .in-range in
-        let a = matches-read c d q (h .matched) in
-        ap₂ _&&_ (ap not (h .deny))
-        (ap (breaksForFound c patient clock d) (h .named)
-        ∙ rw (
-          some-of (length (c .records)) (selects (c .records) d) .make (hasBaseline c patient (h .person)) (q .«record»)
-              (i .record-in, a .selected) (has-baseline-make (h .person) (q .«record») (h .baseline)),
-          some-below origins .make (fromOrigin d) (q .origin) (i .origin-in) (a .origin),
-          some-below purposes .make (forPurpose d) (q .purpose) (i .purpose-in) (a .purpose),
-        )
-        (lt-ltb (start clock d) (d .until) (omega arith)))
-
     module _ (a-role : 0 < length (c .roles)) (fit : Fit c d) where
-      breaks-found :
-          (s : Subject) → d .subject ≡ s → d .permit ≡ false → breaksForFound c patient clock d s ≡ true →
-          Broken c patient clock d
-      breaks-found (Person n) named deny t =
+      -- what is found is such a request, at the first minute
+      pub baseline-found-read : breaksBaselineFound c patient clock d ≡ true → Broken c patient clock d
+      unfolding breaksBaselineFound
+      baseline-found-read =
+          named-deny (breaksForFound c patient clock d) (λ n. refl) λ n deny named t.
           let (to-purpose, span) = and-both _ (ltb (start clock d) (d .until)) t in
           let (to-origin, purpose) = and-both _ (someBelow purposes (forPurpose d)) to-purpose in
           let (own, origin) = and-both _ (someBelow origins (fromOrigin d)) to-origin in
@@ -142,14 +132,23 @@ module _ (c : Contents) (patient : ℕ) where
                 });
             baseline = has-baseline-read n x baseline;
           }
-      breaks-found (Role n) named deny t = both-ways t refl
 
-      -- what is found is such a request, at the first minute
-      pub baseline-found-read : breaksBaselineFound c patient clock d ≡ true → Broken c patient clock d
-      unfolding breaksBaselineFound
-      baseline-found-read t =
-          let (deny, breaks) = and-both (not (d .permit)) _ t in
-          breaks-found (d .subject) refl (not-true (d .permit) deny) breaks
+    -- what breaks the baseline is found
+    pub baseline-found-make : Broken c patient clock d → breaksBaselineFound c patient clock d ≡ true
+    unfolding breaksBaselineFound
+    baseline-found-make h =
+        let q = h .denied in
+        let i = h .in-range in
+        let a = matches-read c d q (h .matched) in
+        ap₂ _&&_ (ap not (h .deny))
+        (ap (breaksForFound c patient clock d) (h .named)
+        ∙ rw (
+          some-of (length (c .records)) (selects (c .records) d) .make (hasBaseline c patient (h .person)) (q .«record»)
+              (i .record-in, a .selected) (has-baseline-make (h .person) (q .«record») (h .baseline)),
+          some-below origins .make (fromOrigin d) (q .origin) (i .origin-in) (a .origin),
+          some-below purposes .make (forPurpose d) (q .purpose) (i .purpose-in) (a .purpose),
+        )
+        (lt-ltb (start clock d) (d .until) (omega arith)))
 
   -- what breaks the baseline from a later minute on breaks it from an earlier on
   pub baseline-later :

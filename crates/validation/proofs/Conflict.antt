@@ -1,6 +1,6 @@
 -- Two directives match a request in common exactly where they overlap in each dimension.
 use Prim.Native.Nat.{ℕ, _<_, _≤_, max, min}
-use mathlib.Core.Path.{_≡_, refl, sym, _∙_}
+use mathlib.Core.Path.{_≡_, refl, _∙_}
 use mathlib.Core.Bool.{Bool, true, false, not, Bool·beq}
 use native.Mathlib.Omega.{arith}
 use borrow.Author.Tests.{not-true, eqb-true, eq-eqb, ltb-true, lt-ltb}
@@ -82,33 +82,6 @@ module _ (c : Contents) (clock : ℕ) where
         by-second = h .by-second;
       })
 
-  subjects-meet :
-      (s t : Subject) (p r : ℕ) → r < length (c .roles) →
-      subjectCovers (c .roles) s p r ≡ true → subjectCovers (c .roles) t p r ≡ true → subjectsMeet c s t ≡ true
-  subjects-meet (Person n) (Person k) p r h a b =
-      let i = eqb-true n p a in let j = eqb-true k p b in eq-eqb n k (omega arith)
-  subjects-meet (Person n) (Role k) p r h a b = refl
-  subjects-meet (Role n) (Person k) p r h a b = refl
-  subjects-meet (Role n) (Role k) p r h a b =
-      some-of (length (c .roles)) (covers (c .roles) n) .make (covers (c .roles) k) r (h, a) b
-
-  -- what two directives have in common is found
-  pub overlap-make : (d e : Directive) → Common c clock d e → overlap c clock d e ≡ true
-  unfolding overlap
-  overlap-make d e h =
-      let q = h .common in
-      let i = h .in-range in
-      let a = matches-read c d q (h .by-first) in
-      let b = matches-read c e q (h .by-second) in
-      rw (
-        subjects-meet (d .subject) (e .subject) (q .person) (q .role) (i .role-in) (a .subject) (b .subject),
-        some-of origins (fromOrigin d) .make (fromOrigin e) (q .origin) (i .origin-in, a .origin) (b .origin),
-        some-of (length (c .records)) (selects (c .records) d) .make (selects (c .records) e) (q .«record»)
-            (i .record-in, a .selected) (b .selected),
-        some-of purposes (forPurpose d) .make (forPurpose e) (q .purpose) (i .purpose-in, a .purpose) (b .purpose),
-      )
-      (lt-ltb (max (start clock d) (start clock e)) (min (d .until) (e .until)) (omega arith))
-
   module _ (a-role : 0 < length (c .roles)) where
     meeting :
         (s t : Subject) → SubjectIn c s → SubjectIn c t → subjectsMeet c s t ≡ true →
@@ -161,3 +134,30 @@ module _ (c : Contents) (clock : ℕ) where
                 not-over = omega arith;
               });
         }
+
+  subjects-meet :
+      (s t : Subject) (p r : ℕ) → r < length (c .roles) →
+      subjectCovers (c .roles) s p r ≡ true → subjectCovers (c .roles) t p r ≡ true → subjectsMeet c s t ≡ true
+  subjects-meet (Person n) (Person k) p r h a b =
+      let i = eqb-true n p a in let j = eqb-true k p b in eq-eqb n k (omega arith)
+  subjects-meet (Person n) (Role k) p r h a b = refl
+  subjects-meet (Role n) (Person k) p r h a b = refl
+  subjects-meet (Role n) (Role k) p r h a b =
+      some-of (length (c .roles)) (covers (c .roles) n) .make (covers (c .roles) k) r (h, a) b
+
+  -- what two directives have in common is found
+  pub overlap-make : (d e : Directive) → Common c clock d e → overlap c clock d e ≡ true
+  unfolding overlap
+  overlap-make d e h =
+      let q = h .common in
+      let i = h .in-range in
+      let a = matches-read c d q (h .by-first) in
+      let b = matches-read c e q (h .by-second) in
+      rw (
+        subjects-meet (d .subject) (e .subject) (q .person) (q .role) (i .role-in) (a .subject) (b .subject),
+        some-of origins (fromOrigin d) .make (fromOrigin e) (q .origin) (i .origin-in, a .origin) (b .origin),
+        some-of (length (c .records)) (selects (c .records) d) .make (selects (c .records) e) (q .«record»)
+            (i .record-in, a .selected) (b .selected),
+        some-of purposes (forPurpose d) .make (forPurpose e) (q .purpose) (i .purpose-in, a .purpose) (b .purpose),
+      )
+      (lt-ltb (max (start clock d) (start clock e)) (min (d .until) (e .until)) (omega arith))

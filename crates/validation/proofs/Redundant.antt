@@ -1,7 +1,7 @@
 -- A directive is redundant exactly where the search finds that it is.
 use Prim.Native.Nat.{ℕ, suc, _<_, _≤_}
 use mathlib.Core.Path.{_≡_, refl, _∙_}
-use mathlib.Core.Bool.{true, false, _&&_}
+use mathlib.Core.Bool.{true, false}
 use mathlib.Core.List.{List, List·Memᴰ}
 use native.Mathlib.Omega.{arith}
 use borrow.Author.Tests.{eqb-true, eq-eqb}
@@ -71,21 +71,7 @@ module _ (c : Contents) (clock : ℕ) (d : Directive) (es : List Directive) wher
       )
 
 module _ (c : Contents) where
-  -- what the person who stands for s is to t, each person whom s covers is to t
-  stands-at :
-      (s t : Subject) (p r : ℕ) → subjectCovers (c .roles) s p r ≡ true → standsFor c s t r ≡ true →
-      subjectCovers (c .roles) t p r ≡ true
-  stands-at (Person n) (Person k) p r a b =
-      let i = eqb-true n p a in let j = eqb-true k n b in eq-eqb k p (omega arith)
-  stands-at (Person n) (Role k) p r a b = b
-  stands-at (Role n) (Person k) p r a b = both-ways b refl
-  stands-at (Role n) (Role k) p r a b = b
-
-  stands-self : (s : Subject) (p r : ℕ) → subjectCovers (c .roles) s p r ≡ true → standsFor c s s r ≡ true
-  stands-self (Person n) p r a = eq-eqb n n refl
-  stands-self (Role n) p r a = a
-
-  -- the person who stands for s in role r: named by s, or not named by any of the list
+  -- the person who stands for s in role r: named by s, or one whose number no subject of the list has
   standing :
       (s : Subject) (es : List Directive) (r : ℕ) → SubjectIn c s → length es < persons → standsFor c s s r ≡ true →
       (p : ℕ) × (p < persons) × (subjectCovers (c .roles) s p r ≡ true)
@@ -105,6 +91,52 @@ module _ (c : Contents) where
           subjectCovers (c .roles) t p r ≡ true → standsFor c (Role n) t r ≡ true
       unnamed p (Person k) f b = absurd (f (eqb-true k p b))
       unnamed p (Role k) f b = b
+
+  module _ (clock : ℕ) (d : Directive) (es : List Directive) (fit : Fit c d) (few : length es < persons) where
+    -- what holds of each request is found
+    pub redundant-found-make : AllCovered c clock d es → redundantFound c clock d es ≡ true
+    unfolding redundantFound
+    redundant-found-make holds =
+        every-of (length (c .records)) (selects (c .records) d) .make _ λ x hx.
+        every-of origins (fromOrigin d) .make _ λ o ho.
+        every-of purposes (forPurpose d) .make _ λ u hu.
+        every-of (length (c .roles)) (standsFor c (d .subject) (d .subject)) .make _ λ r hr.
+        every-where (inMinutes (start clock d) (d .until)) (every-list (boundaries clock d es)) .make _ λ m hm.
+        let (begun, not-over) = in-minutes-read (start clock d) (d .until) m (hm .1) in
+        let (p, hp, s, stands) = standing (d .subject) es r (fit .subject-in) few (hr .1) in
+        let q = request p r o x u m in
+        let (e, i, same, matched) =
+        covered-read c d es q
+        (holds q
+        (omega (arith, fit .until-in))
+        (matches-make c d q
+        (record {
+          subject = s;
+          origin = ho .1;
+          purpose = hu .1;
+          selected = hx .1;
+          begun = omega arith;
+          not-over = not-over;
+        })))
+        in
+        let (covers, rest) =
+        and-both (subjectCovers (c .roles) (e .subject) p r) _ (rw matches-split at matched)
+        in
+        some-list es .make (λ e. meets c d x o u r e m) e i (rw (same, stands e i covers, rest))
+
+  -- what the person who stands for s is to t, each person whom s covers is to t
+  stands-at :
+      (s t : Subject) (p r : ℕ) → subjectCovers (c .roles) s p r ≡ true → standsFor c s t r ≡ true →
+      subjectCovers (c .roles) t p r ≡ true
+  stands-at (Person n) (Person k) p r a b =
+      let i = eqb-true n p a in let j = eqb-true k n b in eq-eqb k p (omega arith)
+  stands-at (Person n) (Role k) p r a b = b
+  stands-at (Role n) (Person k) p r a b = both-ways b refl
+  stands-at (Role n) (Role k) p r a b = b
+
+  stands-self : (s : Subject) (p r : ℕ) → subjectCovers (c .roles) s p r ≡ true → standsFor c s s r ≡ true
+  stands-self (Person n) p r a = eq-eqb n n refl
+  stands-self (Role n) p r a = a
 
   module _ (d : Directive) (x o u r : ℕ) where
     meets-read :
@@ -131,73 +163,40 @@ module _ (c : Contents) where
           not-over = omega arith;
         }))
 
-  module _ (clock : ℕ) (d : Directive) (es : List Directive) where
-    module _ (found : redundantFound c clock d es ≡ true) where
-      point-covered :
-          (x o u r m : ℕ) →
-          (x < length (c .records)) × (selects (c .records) d x ≡ true) →
-          (o < origins) × (fromOrigin d o ≡ true) →
-          (u < purposes) × (forPurpose d u ≡ true) →
-          (r < length (c .roles)) × (standsFor c (d .subject) (d .subject) r ≡ true) →
-          start clock d ≤ m → m < d .until → coveredAt c d es x o u r m ≡ true
-      unfolding redundantFound
-      point-covered x o u r m hx ho hu hr =
-          covered-between (meets c d x o u r) (λ e. e .until) (goes-on d x o u r) es (start clock d) (d .until)
-          (λ n i h k.
-          every-where (inMinutes (start clock d) (d .until)) (every-list (boundaries clock d es)) .read _
-          (every-of _ _ .read _
-          (every-of _ _ .read _ (every-of _ _ .read _ (every-of _ _ .read _ found x hx) o ho) u hu)
-          r hr)
-          n (i, in-minutes-make (start clock d) (d .until) n h k))
-          m
+  module _ (clock : ℕ) (d : Directive) (es : List Directive) (found : redundantFound c clock d es ≡ true) where
+    point-covered :
+        (x o u r m : ℕ) →
+        (x < length (c .records)) × (selects (c .records) d x ≡ true) →
+        (o < origins) × (fromOrigin d o ≡ true) →
+        (u < purposes) × (forPurpose d u ≡ true) →
+        (r < length (c .roles)) × (standsFor c (d .subject) (d .subject) r ≡ true) →
+        start clock d ≤ m → m < d .until → coveredAt c d es x o u r m ≡ true
+    unfolding redundantFound
+    point-covered x o u r m hx ho hu hr =
+        covered-between (meets c d x o u r) (λ e. e .until) (goes-on d x o u r) es (start clock d) (d .until)
+        (λ n i h k.
+        every-where (inMinutes (start clock d) (d .until)) (every-list (boundaries clock d es)) .read _
+        (every-of _ _ .read _
+        (every-of _ _ .read _ (every-of _ _ .read _ (every-of _ _ .read _ found x hx) o ho) u hu)
+        r hr)
+        n (i, in-minutes-make (start clock d) (d .until) n h k))
+        m
 
-      -- what is found holds of each request
-      pub redundant-found-read : AllCovered c clock d es
-      redundant-found-read q h t =
-          let a = matches-read c d q t in
-          let (e, i, met) =
-          some-list es .read _
-          (point-covered (q .«record») (q .origin) (q .purpose) (q .role) (q .minute)
-          (h .record-in, a .selected)
-          (h .origin-in, a .origin)
-          (h .purpose-in, a .purpose)
-          (h .role-in, stands-self (d .subject) (q .person) (q .role) (a .subject))
-          (omega arith)
-          (a .not-over))
-          in
-          let (same, stands, rest) = meets-read d _ _ _ _ e _ met in
-          covered-make c d es q e i same
-          (matches-split c e q
-          ∙ rw (stands-at (d .subject) (e .subject) (q .person) (q .role) (a .subject) stands, rest))
-
-    module _ (fit : Fit c d) (few : length es < persons) where
-      -- what holds of each request is found
-      pub redundant-found-make : AllCovered c clock d es → redundantFound c clock d es ≡ true
-      unfolding redundantFound
-      redundant-found-make holds =
-          every-of (length (c .records)) (selects (c .records) d) .make _ λ x hx.
-          every-of origins (fromOrigin d) .make _ λ o ho.
-          every-of purposes (forPurpose d) .make _ λ u hu.
-          every-of (length (c .roles)) (standsFor c (d .subject) (d .subject)) .make _ λ r hr.
-          every-where (inMinutes (start clock d) (d .until)) (every-list (boundaries clock d es)) .make _ λ m hm.
-          let (begun, not-over) = in-minutes-read (start clock d) (d .until) m (hm .1) in
-          let (p, hp, s, stands) = standing (d .subject) es r (fit .subject-in) few (hr .1) in
-          let q = request p r o x u m in
-          let (e, i, same, matched) =
-          covered-read c d es q
-          (holds q
-          (omega (arith, fit .until-in))
-          (matches-make c d q
-          (record {
-            subject = s;
-            origin = ho .1;
-            purpose = hu .1;
-            selected = hx .1;
-            begun = omega arith;
-            not-over = not-over;
-          })))
-          in
-          let (covers, rest) =
-          and-both (subjectCovers (c .roles) (e .subject) p r) _ (rw matches-split at matched)
-          in
-          some-list es .make _ e i (rw (same, stands e i covers, rest))
+    -- what is found holds of each request
+    pub redundant-found-read : AllCovered c clock d es
+    redundant-found-read q h t =
+        let a = matches-read c d q t in
+        let (e, i, met) =
+        some-list es .read _
+        (point-covered (q .«record») (q .origin) (q .purpose) (q .role) (q .minute)
+        (h .record-in, a .selected)
+        (h .origin-in, a .origin)
+        (h .purpose-in, a .purpose)
+        (h .role-in, stands-self (d .subject) (q .person) (q .role) (a .subject))
+        (omega arith)
+        (a .not-over))
+        in
+        let (same, stands, rest) = meets-read d _ _ _ _ e _ met in
+        covered-make c d es q e i same
+        (matches-split c e q
+        ∙ rw (stands-at (d .subject) (e .subject) (q .person) (q .role) (a .subject) stands, rest))

@@ -1,4 +1,4 @@
--- "Every request" and "some request" range over the requests that are in range; a match is the subject's and the rest's.
+-- "Every request" and "some request" range over the requests in range. A match splits into the subject and the rest.
 use Prim.Native.Nat.{ℕ, _<_, _≤_}
 use mathlib.Core.Path.{_≡_, refl}
 use mathlib.Core.Bool.{Bool, true, false, _&&_}
