@@ -1,5 +1,4 @@
 -- What each case of reading's and writing's answers means, in document 01's numbers and values.
-use Prim.Native.Nat.{ℕ}
 use mathlib.Core.List.{[], _∷_}
 use Rattle.ledger.specs.Answer.{Answer, done, refused, directiveAnswer}
 use Rattle.card.specs.declared.ReadAnswer.{ReadAnswer}

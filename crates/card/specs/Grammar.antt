@@ -15,22 +15,14 @@ pub data Tag : Type 0 where
   directive : Tag
   other : Tag
 
-abbrev pub tagByte : Tag → ℕ
-tagByte head = 0x01
-tagByte roles = 0x02
-tagByte item = 0x03
-tagByte directive = 0x04
-tagByte other = 0x00
-
 abbrev pub tagOf : ℕ → Tag
 tagOf b =
-    pick (eqb b (tagByte head)) head
-    (pick (eqb b (tagByte roles)) roles
-    (pick (eqb b (tagByte item)) item (pick (eqb b (tagByte directive)) directive other)))
+    pick (eqb b 0x01) head
+    (pick (eqb b 0x02) roles (pick (eqb b 0x03) item (pick (eqb b 0x04) directive other)))
 
 -- a field's bytes
-abbrev pub field : Tag → List ℕ → List ℕ
-field tag v = tagByte tag ∷ (bytes 2 (length v) ++ v)
+abbrev pub field : ℕ → List ℕ → List ℕ
+field tag v = tag ∷ (bytes 2 (length v) ++ v)
 
 -- The parts of the field at the start of s.
 abbrev pub fieldTag : List ℕ → Tag

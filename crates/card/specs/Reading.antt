@@ -1,6 +1,6 @@
 -- Reading a card: questions 1 to 5, and 7 to 13 for each directive; never 14.
 use Prim.Native.Nat.{ℕ, zero, suc}
-use mathlib.Core.Bool.{Bool, true, false, _&&_, not}
+use mathlib.Core.Bool.{Bool, false, _&&_, not}
 use mathlib.Core.List.{List, [], _∷_, _++_}
 use lib.ListN.{length}
 use lib.Dec.{eqb, leb, ltb}
@@ -9,10 +9,11 @@ use Rattle.sets.specs.Numbers.{numberAt}
 use Rattle.register.specs.Register.{Contents}
 use Rattle.register.specs.Tree.{isTree}
 use Rattle.register.specs.Form.{recordSize, recordOf, recordFits}
-use Rattle.directive.specs.Form.{Draft, draftSize, firstEditionSize, draftOf, withPurposes, directiveOf}
+use Rattle.directive.specs.declared.Draft.{Draft}
+use Rattle.directive.specs.Form.{draftSize, firstEditionSize, draftOf, withPurposes, directiveOf}
 use Rattle.validation.specs.Judgement.{Judgement, meant}
 use Rattle.ledger.specs.Model.{Model, withActive, emptyModel}
-use Rattle.ledger.specs.Answer.{done}
+use Rattle.ledger.specs.Answer.{done, refusal}
 use Rattle.ledger.specs.Questions.{Question, ask, Outcome, outcome, directiveQuestions}
 use Rattle.card.specs.Grammar.{Tag, head, roles, item, directive, other, fieldTag, valueSize, fieldValue, afterField, standsWhole}
 
@@ -26,6 +27,13 @@ nothingRead = record { edition = 0; model = emptyModel }
 
 abbrev pub isEmpty : {A : Type 0} → List A → Bool
 isEmpty l = eqb (length l) 0
+
+-- "edition (1 or 2)"; "The writer gives edition 2"
+abbrev pub lastEdition : ℕ
+lastEdition = 2
+
+abbrev pub writtenEdition : ℕ
+writtenEdition = 2
 
 -- "edition (1 or 2), patient 2, minute 4 (sets the clock)"
 abbrev pub headSize : ℕ
@@ -51,7 +59,7 @@ directiveDraft edition v = draftOf (pick (eqb edition 1) (withPurposes v) v)
 -- Questions 3 and 4, or 7 to 13, of a field's value: "Is it at most the 128th record? 3. Do edition, roles or record keep the
 -- ranges above? 4. A 0x04 field goes on with 7 to 13."
 abbrev pub valueQuestions : Judgement → Progress → Tag → List ℕ → List Question
-valueQuestions j p head v = ask 4 (leb 1 (numberAt 0 1 v) && leb (numberAt 0 1 v) 2) ∷ []
+valueQuestions j p head v = ask 4 (leb 1 (numberAt 0 1 v) && leb (numberAt 0 1 v) lastEdition) ∷ []
 valueQuestions j p roles v = ask 4 (isTree v) ∷ []
 valueQuestions j p item v =
     ask 3 (ltb (length (p .model .register .records)) 128)
@@ -152,3 +160,11 @@ readingBy j s =
 
 abbrev pub reading : List ℕ → Outcome
 reading s = readingBy meant s
+
+-- `cardcheck`'s line: "refusal (0 for none), records, active directives"
+abbrev pub cardLine : List ℕ → List ℕ
+cardLine s =
+    refusal (reading s .answer)
+    ∷ length (reading s .model .register .records)
+    ∷ length (reading s .model .active)
+    ∷ []

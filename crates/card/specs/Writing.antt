@@ -1,6 +1,6 @@
 -- Writing a card: "The writer gives edition 2: patient, clock, register, active directives in order, no tokens."
 use Prim.Native.Nat.{ℕ}
-use mathlib.Core.Bool.{Bool, not}
+use mathlib.Core.Bool.{not}
 use mathlib.Core.List.{List, [], _∷_, _++_}
 use lib.ListN.{length, drop}
 use lib.Dec.{leb}
@@ -13,26 +13,26 @@ use Rattle.directive.specs.Form.{directiveBytes}
 use Rattle.ledger.specs.Model.{Model}
 use Rattle.ledger.specs.Answer.{Answer, done}
 use Rattle.ledger.specs.Questions.{Question, ask, firstNo, passes}
-use Rattle.card.specs.Grammar.{head, roles, item, directive, field}
-use Rattle.card.specs.Reading.{isEmpty}
+use Rattle.card.specs.Grammar.{field}
+use Rattle.card.specs.Reading.{isEmpty, writtenEdition}
 
 abbrev pub headBytes : Model → List ℕ
-headBytes m = bytes 1 2 ++ bytes 2 (m .patient) ++ bytes 4 (m .clock)
+headBytes m = bytes 1 writtenEdition ++ bytes 2 (m .patient) ++ bytes 4 (m .clock)
 
 -- one field a record, in order
 unfoldable pub recordFields : List Record → List ℕ
 recordFields [] = []
-recordFields (r ∷ rs) = field item (recordBytes r) ++ recordFields rs
+recordFields (r ∷ rs) = field 0x03 (recordBytes r) ++ recordFields rs
 
 -- one field a directive, in order
 unfoldable pub directiveFields : List Directive → List ℕ
 directiveFields [] = []
-directiveFields (d ∷ ds) = field directive (directiveBytes d) ++ directiveFields ds
+directiveFields (d ∷ ds) = field 0x04 (directiveBytes d) ++ directiveFields ds
 
 unfoldable pub cardBytes : Model → List ℕ
 cardBytes m =
-    field head (headBytes m)
-    ++ field roles (m .register .roles)
+    field 0x01 (headBytes m)
+    ++ field 0x02 (m .register .roles)
     ++ recordFields (m .register .records)
     ++ directiveFields (m .active)
 

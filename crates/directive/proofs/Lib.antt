@@ -1,1 +1,1 @@
-pub mod Matching
+pub mod MatchLaws

@@ -5,39 +5,26 @@ use mathlib.Core.List.{List, _++_}
 use lib.ListN.{take, drop}
 use lib.Dec.{eqb, leb}
 use Rattle.sets.specs.Quantifiers.{pick, one}
-use Rattle.sets.specs.Bits.{subset, nonEmpty, inBits, isSet}
+use Rattle.sets.specs.Bits.{subset, nonEmpty, inBits, nonEmptySet}
 use Rattle.sets.specs.Numbers.{numberAt, bytes}
+use Rattle.register.specs.Records.{lastReach}
 use Rattle.directive.specs.declared.Subject.{Subject}
 use Rattle.directive.specs.declared.Subject.the-variants.{Person, Role}
 use Rattle.directive.specs.declared.Directive.{Directive}
-
--- The numbers that 25 bytes write, whatever they are.
-pub record Draft : Type 0 where
-  pub number : ℕ
-  pub effect : ℕ
-  pub kind : ℕ
-  pub subject : ℕ
-  pub «subject_origins» : ℕ
-  pub «record» : ℕ
-  pub reach : ℕ
-  pub origins : ℕ
-  pub sensitivities : ℕ
-  pub kinds : ℕ
-  pub purposes : ℕ
-  pub from : ℕ
-  pub until : ℕ
+use Rattle.directive.specs.declared.Draft.{Draft}
 
 -- "number 2, effect 1 (0 deny, 1 permit), subject kind 1 (0 person, 1 role), subject 2, subject origins 2, record 1,
 -- reach 1, po 2, ps 2, pt 1, purposes 2, from 4, until 4"
 abbrev pub draftSize : ℕ
 draftSize = 25
 
+-- the numbers that 25 bytes write, whatever they are
 unfoldable pub draftOf : List ℕ → Draft
 draftOf s =
     record {
       number = numberAt 0 2 s;
       effect = numberAt 2 1 s;
-      kind = numberAt 3 1 s;
+      «subject_kind» = numberAt 3 1 s;
       subject = numberAt 4 2 s;
       «subject_origins» = numberAt 6 2 s;
       «record» = numberAt 8 1 s;
@@ -65,8 +52,8 @@ withPurposes s = take 15 s ++ bytes 2 everyPurpose ++ drop 15 s
 unfoldable pub keepsRanges : Draft → Bool
 keepsRanges d =
     leb (d .effect) 1
-    && leb (d .kind) 1
-    && leb (d .reach) 2
+    && leb (d .«subject_kind») 1
+    && leb (d .reach) lastReach
     && nonEmpty (d .«subject_origins»)
     && nonEmpty (d .origins)
     && nonEmpty (d .sensitivities)
@@ -83,7 +70,7 @@ directiveOf d =
     record {
       number = d .number;
       permit = eqb (d .effect) 1;
-      subject = subjectOf (d .kind) (d .subject);
+      subject = subjectOf (d .«subject_kind») (d .subject);
       «subject_origins» = d .«subject_origins»;
       «record» = d .«record»;
       reach = d .reach;
@@ -125,13 +112,13 @@ unfoldable pub wellFormed : Directive → Bool
 wellFormed d =
     inBits 16 (d .number)
     && inBits 16 (numberOf (d .subject))
-    && isSet 16 (d .«subject_origins»)
+    && nonEmptySet 16 (d .«subject_origins»)
     && inBits 8 (d .«record»)
-    && leb (d .reach) 2
-    && isSet 16 (d .origins)
-    && isSet 16 (d .sensitivities)
-    && isSet 8 (d .kinds)
-    && isSet 11 (d .purposes)
+    && leb (d .reach) lastReach
+    && nonEmptySet 16 (d .origins)
+    && nonEmptySet 16 (d .sensitivities)
+    && nonEmptySet 8 (d .kinds)
+    && nonEmptySet 11 (d .purposes)
     && inBits 32 (d .from)
     && inBits 32 (d .until)
 

@@ -43,6 +43,23 @@ pub struct Query {
     pub purpose: u8,
 }
 
+// The numbers that the 25 bytes of a directive write, whatever they are.
+pub struct Draft {
+    pub number: u16,
+    pub effect: u8,
+    pub subject_kind: u8,
+    pub subject: u16,
+    pub subject_origins: u16,
+    pub record: u8,
+    pub reach: u8,
+    pub origins: u16,
+    pub sensitivities: u16,
+    pub kinds: u8,
+    pub purposes: u16,
+    pub from: u32,
+    pub until: u32,
+}
+
 // What fills a place that holds no directive.
 pub fn no_directive() -> Directive
     ensures { λ d. ⌜ d ≡ noDirective ⌝ }

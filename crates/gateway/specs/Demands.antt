@@ -1,9 +1,9 @@
 -- The three demands, clause by clause, on the program through its functions' promises. That every call ends is part of what
 -- the prover shows of each function.
-use Prim.Native.Nat.{ℕ, _+_}
+use Prim.Native.Nat.{ℕ, _+_, _<_, _≤_}
 use mathlib.Core.Path.{_≡_}
-use mathlib.Core.Bool.{Bool, true, false, _&&_, not, Bool·beq}
-use mathlib.Core.List.{List, [], _∷_, _++_, map}
+use mathlib.Core.Bool.{Bool, true, false, _&&_, not}
+use mathlib.Core.List.{List, [], _∷_, _++_, map, List·Memᴰ}
 use lib.ListN.{length, take, drop}
 use lib.Dec.{eqb}
 use Rattle.sets.specs.Quantifiers.{implies, one, some}
@@ -12,7 +12,7 @@ use Rattle.directive.specs.declared.Directive.{Directive}
 use Rattle.directive.specs.declared.Request.{Request}
 use Rattle.directive.specs.declared.Query.{Query}
 use Rattle.directive.specs.Matching.{matches}
-use Rattle.validation.specs.Requests.{everyRequest, someRequest, InRange}
+use Rattle.validation.specs.Requests.{persons, everyRequest, someRequest, InRange}
 use Rattle.validation.specs.Meaning.{sameEffect}
 use Rattle.validation.specs.Judgement.{meant}
 use Rattle.ledger.specs.declared.Ledger.{Ledger}
@@ -24,17 +24,17 @@ use Rattle.ledger.specs.declared.answer.BriefAnswer.{BriefAnswer}
 use Rattle.ledger.specs.declared.answer.DecideAnswer.{DecideAnswer}
 use Rattle.ledger.specs.Model.{Model, view, withTokens, emptyLedger}
 use Rattle.ledger.specs.Answer.{Answer, done, refused, accepted, refusal, values, commitAnswer, revokeAnswer, advanceAnswer, issueAnswer, briefAnswer, decideAnswer}
-use Rattle.ledger.specs.Decision.{isPatient, isAuthor, decision, decisionValues}
-use Rattle.ledger.specs.Xacml.{Effect, denyOverrides, permitOverrides, results, effectOf}
-use Rattle.ledger.specs.Questions.{Question, passes, upTo, draftQuestions, revokeQuestions, advanceQuestions, decideQuestions, issueQuestions, briefQuestions}
+use Rattle.ledger.specs.Decision.{matching, isPatient, isAuthor, decision, decisionValues}
+use Rattle.ledger.specs.Xacml.{Effect, directivesSay, denyOverrides, permitOverrides, results, effectOf}
+use Rattle.ledger.specs.Questions.{Question, passes, before, draftQuestions, revokeQuestions, advanceQuestions, decideQuestions, issueQuestions, briefQuestions}
 use Rattle.ledger.specs.Calls.{commit, advance, Call, drafted, afterCommit, afterRevoke, afterAdvance, afterIssue, dropped, briefValues, decided, briefed, modelAfter, answers}
-use Rattle.ledger.specs.Beside.{standBeside, Reordered}
+use Rattle.ledger.specs.Compatible.{compatible, Reordered}
 use Rattle.ledger.specs.Promises.{Commits, Revokes, Advances, Issues, Decides, Briefs}
 use Rattle.card.specs.declared.ReadResult.{ReadResult}
 use Rattle.card.specs.declared.WriteAnswer.{WriteAnswer}
 use Rattle.card.specs.Answer.{readAnswer, writeAnswer}
-use Rattle.card.specs.Reading.{cardQuestions, contentOf, reading}
-use Rattle.card.specs.Writing.{writeQuestions, cardBytes}
+use Rattle.card.specs.Reading.{cardQuestions, contentOf, reading, writtenEdition}
+use Rattle.card.specs.Writing.{writeQuestions, cardBytes, writing, buffered}
 use Rattle.card.specs.Promises.{Reads, Writes}
 use Rattle.gateway.specs.Runs.{Run, Meant}
 use Rattle.gateway.specs.Counts.{total, acceptedOne, revokedOne, expiredOf}
@@ -45,7 +45,8 @@ pub data FirstMissed : List Question → Question → Type 0 where
   later : {p q : Question} {qs : List Question} → p .holds ≡ true → FirstMissed qs q → FirstMissed (p ∷ qs) q
 
 -- What is asked of a call whose questions are qs: where it meets them, the result written in document 01, `met`; where it does
--- not, "the number of the first question it misses", and what was handed in is unchanged.
+-- not, "the number of the first question it misses", and what comes back is `before`: the ledger or the buffer handed in, or
+-- the empty ledger after a refused card.
 pub record Answered {S : Type 0} (qs : List Question) (met : Answer → S → Type 0) (before : S) (a : Answer) (after : S) :
     Type 0 where
   pub result : passes qs ≡ true → met a after
@@ -60,8 +61,8 @@ abbrev pub Tells : List ℕ → Answer → Unit {0} → Type 0
 Tells vs a u = a ≡ done vs
 
 -- success of a write: the length of the card, and the card's bytes before what stood after them
-abbrev pub Writing : List ℕ → List ℕ → Answer → List ℕ → Type 0
-Writing card before a after = (a ≡ done (length card ∷ [])) × (after ≡ card ++ drop (length card) before)
+abbrev pub Filled : List ℕ → List ℕ → Answer → List ℕ → Type 0
+Filled card before a after = (a ≡ done (length card ∷ [])) × (after ≡ card ++ drop (length card) before)
 
 -- DEMAND 1. "Every card, draft, request and call that meets document 01's questions gets the result written there, and the
 -- call ends. Every other input, of any length and content, gets the number of the first question it misses; the ledger is
@@ -100,7 +101,7 @@ pub record Demand1 : Type 0 where
   -- a lent buffer: the card's bytes, then what stood there; after a refusal every byte as it was
   pub write :
       (l : Ledger) (before : List ℕ) (a : WriteAnswer) (after : List ℕ) → Meant l → Writes l before a after →
-      Answered (writeQuestions (view l) before) (Writing (cardBytes (view l)) before) before (writeAnswer a) after
+      Answered (writeQuestions (view l) before) (Filled (cardBytes (view l)) before) before (writeAnswer a) after
 
 -- the effect (1 permit, 0 deny) and the basis of a decide's answer
 abbrev pub effectAndBasis : DecideAnswer → List ℕ
@@ -113,35 +114,37 @@ effectValues e = one (e .permit) ∷ e .basis ∷ []
 pub record Demand2 : Type 0 where
   pub decisions : (l : Ledger) (q : Query) (a : DecideAnswer) → Meant l → Decides l q a → decideAnswer a ≡ decided (view l) q
   pub briefs : (l : Ledger) (n p : ℕ) (a : BriefAnswer) → Meant l → Briefs l n p a → briefAnswer a ≡ briefed (view l) n p
-  pub cards-read : (card : List ℕ) (r : ReadResult) → isBytes card ≡ true → Reads card r → view (r .ledger) ≡ reading card .model
+  pub cards-read :
+      (card : List ℕ) (r : ReadResult) → isBytes card ≡ true → Reads card r →
+      (readAnswer (r .answer) ≡ reading card .answer) × (view (r .ledger) ≡ reading card .model)
   pub cards-written :
-      (l : Ledger) (before : List ℕ) (a : WriteAnswer) (after : List ℕ) (n : ℕ) → Meant l → Writes l before a after →
-      writeAnswer a ≡ done (n ∷ []) → take n after ≡ cardBytes (view l)
-  -- "What the directives say is what XACML 3.0's deny-overrides says over the active ones" (outside the baseline; a combined
-  -- NotApplicable leads to basis 4),
+      (l : Ledger) (before : List ℕ) (a : WriteAnswer) (after : List ℕ) → Meant l → Writes l before a after →
+      (writeAnswer a ≡ writing (view l) before) × (after ≡ buffered (view l) before)
+  -- "What the directives say is what XACML 3.0's deny-overrides says over the active ones,
   pub deny-overrides :
-      (l : Ledger) (q : Query) (a : DecideAnswer) → Meant l → Decides l q a →
+      (l : Ledger) (q : Query) → Meant l → q .person < persons → passes (decideQuestions (view l) q) ≡ true →
+      directivesSay (matching (view l) q) ≡ denyOverrides (results (view l) q)
+  -- and equally its permit-overrides";
+  pub permit-overrides :
+      (l : Ledger) (q : Query) → Meant l → q .person < persons → passes (decideQuestions (view l) q) ≡ true →
+      directivesSay (matching (view l) q) ≡ permitOverrides (results (view l) q)
+  -- "outside the baseline a combined NotApplicable leads to basis 4", and another result to its effect and basis 3.
+  pub combined :
+      (l : Ledger) (q : Query) (a : DecideAnswer) → Meant l → q .person < persons → Decides l q a →
       passes (decideQuestions (view l) q) ≡ true → isPatient (view l) q ≡ false → isAuthor (view l) q ≡ false →
       effectAndBasis a ≡ effectValues (effectOf (view l) q (denyOverrides (results (view l) q)))
-  -- "and equally its permit-overrides."
-  pub permit-overrides :
-      (l : Ledger) (q : Query) (a : DecideAnswer) → Meant l → Decides l q a →
-      passes (decideQuestions (view l) q) ≡ true → isPatient (view l) q ≡ false → isAuthor (view l) q ≡ false →
-      effectAndBasis a ≡ effectValues (effectOf (view l) q (permitOverrides (results (view l) q)))
-  -- "Reading a written card restores its patient, register, clock and directives" (and there are no tokens on a card);
+  -- "Reading a written card restores its patient, register, clock and directives"; a card has no tokens.
   pub read-written :
-      (l : Ledger) (before : List ℕ) (a : WriteAnswer) (after : List ℕ) (n : ℕ) (r : ReadResult) →
-      Meant l → Writes l before a after → writeAnswer a ≡ done (n ∷ []) → Reads (take n after) r →
+      (l : Ledger) (before : List ℕ) (a : WriteAnswer) (after : List ℕ) (r : ReadResult) →
+      Meant l → Writes l before a after → passes (writeQuestions (view l) before) ≡ true →
+      Reads (take (length (cardBytes (view l))) after) r →
       (readAnswer (r .answer) ≡ done []) × (view (r .ledger) ≡ withTokens (view l) [])
   -- "writing an accepted edition 2 card restores its bytes."
   pub written-read :
-      (card : List ℕ) (r : ReadResult) (before : List ℕ) (a : WriteAnswer) (after : List ℕ) (n : ℕ) →
-      isBytes card ≡ true → Reads card r → readAnswer (r .answer) ≡ done [] → contentOf card .edition ≡ 2 →
-      Writes (r .ledger) before a after → writeAnswer a ≡ done (n ∷ []) → take n after ≡ card
-
--- among these, one of this effect matches the request
-abbrev pub matchedBy : Model → Bool → Request → Bool
-matchedBy m effect q = some (λ d. Bool·beq (d .permit) effect && matches (m .register) d q) (m .active)
+      (card : List ℕ) (r : ReadResult) (before : List ℕ) (a : WriteAnswer) (after : List ℕ) →
+      isBytes card ≡ true → Reads card r → passes (cardQuestions card) ≡ true →
+      contentOf card .edition ≡ writtenEdition → length card ≤ length before → Writes (r .ledger) before a after →
+      (writeAnswer a ≡ done (length card ∷ [])) × (take (length card) after ≡ card)
 
 -- one of the active, of the effect opposite to d's, matches the request
 abbrev pub opposed : Model → Directive → Request → Bool
@@ -194,25 +197,27 @@ pub record Kept (card : List ℕ) (cs : List Call) (rs : List Answer) (l : Ledge
       isAuthor (view l) q ≡ true → take 1 (values (decideAnswer a)) ≡ 1 ∷ []
   -- "No request now or later is matched by both a permit and a deny among the active."
   pub no-clash :
-      (q : Request) → InRange (view l .register) (view l .clock) q →
-      matchedBy (view l) true q ≡ true → matchedBy (view l) false q ≡ true → ⊥
+      (d e : Directive) → List·Memᴰ d (view l .active) → List·Memᴰ e (view l .active) →
+      d .permit ≡ true → e .permit ≡ false → (q : Request) → InRange (view l .register) (view l .clock) q →
+      matches (view l .register) d q ≡ true → matches (view l .register) e q ≡ true → ⊥
   -- the two exact clauses, of every draft
   pub exact :
       (s : List ℕ) (r : CommitResult) → isBytes s ≡ true → Commits l s r →
-      passes (upTo 12 (draftQuestions meant (view l) s)) ≡ true → Exact l s r
+      passes (before 13 (draftQuestions meant (view l) s)) ≡ true → Exact l s r
   -- "Drafts that stand beside each other, committed in any two orders, leave every decide call the same effect and basis, now
   -- and after the same advances." `now` is the empty list of advances.
   pub order :
-      (ss ts : List (List ℕ)) (minutes : List ℕ) → standBeside (view l) ss ≡ true → Reordered ss ts →
+      (ss ts : List (List ℕ)) (minutes : List ℕ) → compatible (view l) ss ≡ true → Reordered ss ts →
       (l₁ m₁ l₂ m₂ : Ledger) (rs₁ xs₁ rs₂ xs₂ : List Answer) →
       Run l (map commit ss) rs₁ l₁ → Run l₁ (map advance minutes) xs₁ m₁ →
       Run l (map commit ts) rs₂ l₂ → Run l₂ (map advance minutes) xs₂ m₂ →
-      (q : Query) (a b : DecideAnswer) → Decides m₁ q a → Decides m₂ q b → effectAndBasis a ≡ effectAndBasis b
+      (q : Query) (a b : DecideAnswer) → q .person < persons → Decides m₁ q a → Decides m₂ q b →
+      effectAndBasis a ≡ effectAndBasis b
 
 -- DEMAND 3. "Take the ledger read from any card that document 01's questions accept, and any list of commit, revoke, advance
 -- and issue calls on it, refused ones included."
 abbrev pub Demand3 : Type 0
 Demand3 =
     (card : List ℕ) (r : ReadResult) (cs : List Call) (rs : List Answer) (l : Ledger) →
-    isBytes card ≡ true → Reads card r → readAnswer (r .answer) ≡ done [] → Run (r .ledger) cs rs l →
+    isBytes card ≡ true → passes (cardQuestions card) ≡ true → Reads card r → Run (r .ledger) cs rs l →
     Kept card cs rs l

@@ -35,7 +35,7 @@ pub data Called : Ledger → Call → Answer → Ledger → Type 0 where
 
 -- "Each call gets the ledger that read or the call before it gave; nobody else changes it."
 pub data Run : Ledger → List Call → List Answer → Ledger → Type 0 where
-  none : {l : Ledger} → Run l [] [] l
+  ended : {l : Ledger} → Run l [] [] l
   more :
       {l m n : Ledger} {c : Call} {a : Answer} {cs : List Call} {rs : List Answer} →
       Called l c a m → Run m cs rs n → Run l (c ∷ cs) (a ∷ rs) n

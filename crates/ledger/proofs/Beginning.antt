@@ -1,5 +1,4 @@
 -- The empty ledger's view is the empty model, and it is sound.
-use Prim.Native.Nat.{_≤_}
 use mathlib.Core.Path.{_≡_, refl}
 use native.Mathlib.Omega.{arith}
 use Rattle.sets.specs.Quantifiers.{allBelow, all, pairwise}
@@ -25,12 +24,12 @@ empty-model-sound =
             records-few = omega arith;
             records-fit = refl;
             records-wide = refl;
-            together = refl;
+            roles-with-records = λ h. absurd (omega arith);
           };
       active-few = omega arith;
       active-stand = refl;
       active-differ = refl;
-      baseline-spared = refl;
+      baseline-kept = refl;
       no-clash = refl;
       tokens-few = omega arith;
       tokens-live = refl;

@@ -1,1 +1,5 @@
 pub mod Beginning
+pub mod Questions
+pub mod Lowest
+pub mod Agree
+pub mod Cases

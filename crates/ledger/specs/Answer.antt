@@ -3,9 +3,8 @@ use Prim.Native.Nat.{ℕ}
 use mathlib.Core.Bool.{Bool, true, false}
 use mathlib.Core.List.{List, [], _∷_}
 use Rattle.sets.specs.Quantifiers.{one}
-use Rattle.ledger.specs.declared.answer.Brief.{Brief}
 use Rattle.ledger.specs.declared.answer.DirectiveRefusal.{DirectiveRefusal}
-use Rattle.ledger.specs.declared.answer.DirectiveRefusal.the-variants as Directive
+use Rattle.ledger.specs.declared.answer.DirectiveRefusal.the-variants as Refusal
 use Rattle.ledger.specs.declared.answer.CommitAnswer.{CommitAnswer}
 use Rattle.ledger.specs.declared.answer.CommitAnswer.the-variants as Commit
 use Rattle.ledger.specs.declared.answer.RevokeAnswer.{RevokeAnswer}
@@ -40,13 +39,13 @@ values (done vs) = vs
 values (refused n vs) = []
 
 abbrev pub directiveAnswer : DirectiveRefusal → Answer
-directiveAnswer Directive.OutOfRange = refused 7 []
-directiveAnswer Directive.NotInRegister = refused 8 []
-directiveAnswer Directive.NoMinutes = refused 9 []
-directiveAnswer Directive.NumberTaken = refused 10 []
-directiveAnswer Directive.ListFull = refused 11 []
-directiveAnswer Directive.BreaksBaseline = refused 12 []
-directiveAnswer (Directive.Conflicts n) = refused 13 (n ∷ [])
+directiveAnswer Refusal.OutOfRange = refused 7 []
+directiveAnswer Refusal.NotInRegister = refused 8 []
+directiveAnswer Refusal.NoMinutes = refused 9 []
+directiveAnswer Refusal.NumberTaken = refused 10 []
+directiveAnswer Refusal.ListFull = refused 11 []
+directiveAnswer Refusal.BreaksBaseline = refused 12 []
+directiveAnswer (Refusal.Conflicts n) = refused 13 (n ∷ [])
 
 abbrev pub commitAnswer : CommitAnswer → Answer
 commitAnswer Commit.Committed = done []

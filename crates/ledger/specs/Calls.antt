@@ -1,7 +1,7 @@
 -- The reference model (document 01: the plain book): what each call answers, and the model after it. It is fed the calls'
 -- arguments alone.
 use Prim.Native.Nat.{ℕ, _+_}
-use mathlib.Core.Bool.{Bool, _&&_, not}
+use mathlib.Core.Bool.{_&&_, not}
 use mathlib.Core.List.{List, [], _∷_, _++_}
 use lib.Dec.{eqb, leb}
 use Rattle.sets.specs.Quantifiers.{keep, count}

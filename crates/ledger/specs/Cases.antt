@@ -1,12 +1,11 @@
--- Document 01's sample register and its cases K1 to K12, as one table. proofs/Cases.antt has that each case holds.
+-- Document 01's sample register and its cases K1 to K12, as one table. proofs/Cases.antt has a value of `CasesHold`.
 use Prim.Native.Nat.{ℕ}
 use mathlib.Core.Path.{_≡_}
 use mathlib.Core.Bool.{Bool, true, false}
-use mathlib.Core.List.{List, [], _∷_, map}
+use mathlib.Core.List.{List, [], _∷_, map, List·Memᴰ}
 use Rattle.register.specs.declared.Record.{Record}
 use Rattle.directive.specs.declared.Subject.{Subject}
 use Rattle.directive.specs.declared.Subject.the-variants.{Person, Role}
-use Rattle.directive.specs.declared.Directive.{Directive}
 use Rattle.directive.specs.declared.Query.{Query}
 use Rattle.directive.specs.Selection.{selects}
 use Rattle.directive.specs.Form.{everyPurpose, directiveBytes}
@@ -19,13 +18,13 @@ use Rattle.ledger.specs.Calls.{Call, commit, advance, issue, calledBy, d
 -- What is put to a ledger: a call that may change it, a decide, or a brief for a token's number and a person.
 pub data Item : Type 0 where
   call : Call → Item
-  decide : Query → Item
-  brief : ℕ → ℕ → Item
+  deciding : Query → Item
+  briefing : ℕ → ℕ → Item
 
 abbrev pub itemBy : Judgement → Model → Item → Outcome
 itemBy j m (call c) = calledBy j m c
-itemBy j m (decide q) = record { answer = decided m q; model = m }
-itemBy j m (brief n p) = record { answer = briefed m n p; model = m }
+itemBy j m (deciding q) = record { answer = decided m q; model = m }
+itemBy j m (briefing n p) = record { answer = briefed m n p; model = m }
 
 -- an answer as a line of numbers: the question missed (0 for none), then the values
 abbrev pub line : Answer → List ℕ
@@ -115,7 +114,7 @@ abbrev pub query : ℕ → ℕ → ℕ → ℕ → ℕ → Query
 query p r o x u = record { person = p; role = r; origin = o; «record» = x; purpose = u }
 
 abbrev pub asks : ℕ → ℕ → ℕ → ℕ → ℕ → Item
-asks p r o x u = decide (query p r o x u)
+asks p r o x u = deciding (query p r o x u)
 
 unfoldable pub cases : List Case
 cases =
@@ -159,11 +158,11 @@ cases =
     -- K10 token 9 for 600, state set 0x01, length 30: words 2 and 0, count 1. At 1029 live; at 1030, 22.
     ∷ run
     (call (issue 9 600 0x01 30) gives (0 ∷ [])
-    ∷ brief 9 600 gives (0 ∷ 2 ∷ 0 ∷ 1 ∷ [])
+    ∷ briefing 9 600 gives (0 ∷ 2 ∷ 0 ∷ 1 ∷ [])
     ∷ call (advance 1029) gives (0 ∷ 0 ∷ 0 ∷ [])
-    ∷ brief 9 600 gives (0 ∷ 2 ∷ 0 ∷ 1 ∷ [])
+    ∷ briefing 9 600 gives (0 ∷ 2 ∷ 0 ∷ 1 ∷ [])
     ∷ call (advance 1030) gives (0 ∷ 0 ∷ 1 ∷ [])
-    ∷ brief 9 600 gives (22 ∷ [])
+    ∷ briefing 9 600 gives (22 ∷ [])
     ∷ [])
     -- K11 after A, advance to 2000: one directive dropped; number 1 is free.
     ∷ run
@@ -174,3 +173,7 @@ cases =
     -- K12 permit role 3, record 2, reach 1: 14.
     ∷ run (call (commit (draft 2 permit (Role 3) 2 1)) gives (14 ∷ []) ∷ [])
     ∷ []
+
+-- "K1 to K12, as one table with one proof about the definitions"
+abbrev pub CasesHold : Type 0
+CasesHold = (k : Case) → List·Memᴰ k cases → Holds k

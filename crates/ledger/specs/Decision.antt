@@ -1,7 +1,7 @@
 -- The decision on a request, with its four bases.
 use Prim.Native.Nat.{ℕ}
 use mathlib.Core.Bool.{Bool, true, _&&_}
-use mathlib.Core.List.{List, [], _∷_, _++_}
+use mathlib.Core.List.{List, [], _∷_}
 use lib.Dec.{eqb, ltb}
 use Rattle.sets.specs.Quantifiers.{pick, one, keep}
 use Rattle.sets.specs.Bits.{bit}

@@ -1,13 +1,13 @@
 -- The scope of an emergency token, and the brief.
-use Prim.Native.Nat.{ℕ, _+_, _*_}
+use Prim.Native.Nat.{ℕ}
 use mathlib.Core.Bool.{Bool, _&&_}
 use mathlib.Core.List.{List, [], _∷_}
 use lib.ListN.{length, getD}
-use lib.Dec.{ltb}
 use Rattle.sets.specs.Quantifiers.{someBelow, countBelow}
 use Rattle.sets.specs.Bits.{bit, shares, setOf}
+use Rattle.sets.specs.Words.{wordOf}
 use Rattle.register.specs.declared.Record.{Record}
-use Rattle.register.specs.Records.{recordAt}
+use Rattle.register.specs.Records.{recordAt, hasRecord}
 
 -- "cardiac arrest 0x000F, respiratory failure 0x000B, stroke signs 0x0017, low blood sugar 0x0023, haemorrhage 0x00C3,
 -- major injury 0x01C3, sepsis 0x0603, anaphylaxis 0x000B (states 0..7)"
@@ -20,13 +20,13 @@ scope states = setOf 16 (λ k. someBelow 8 (λ s. bit s states && bit k (getD la
 
 -- record x is in the brief: "set when labels and scope share a bit"
 unfoldable pub disclosed : List Record → ℕ → ℕ → Bool
-disclosed rs states x = ltb x (length rs) && shares 16 (recordAt rs x .labels) (scope states)
+disclosed rs states x = hasRecord rs x && shares 16 (recordAt rs x .labels) (scope states)
 
 -- "two 64-bit words, bit i for record i (word i / 64, bit i mod 64)"
 unfoldable pub briefWord : List Record → ℕ → ℕ → ℕ
-briefWord rs states w = setOf 64 (λ i. disclosed rs states (64 * w + i))
+briefWord rs states w = wordOf (disclosed rs states) w
 
--- "and the count of set bits": the number of disclosed records
+-- "and the count of set bits": the number of disclosed records, which the bits are one for one
 unfoldable pub briefCount : List Record → ℕ → ℕ
 briefCount rs states = countBelow (length rs) (disclosed rs states)
 

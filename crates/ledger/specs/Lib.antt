@@ -5,7 +5,7 @@ pub mod Decision
 pub mod Xacml
 pub mod Questions
 pub mod Calls
-pub mod Beside
+pub mod Compatible
 pub mod Sound
 pub mod Promises
 pub mod Cases

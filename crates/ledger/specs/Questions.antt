@@ -8,15 +8,17 @@ use lib.Dec.{eqb, leb, ltb}
 use Rattle.sets.specs.Quantifiers.{pick, all, some, keep}
 use Rattle.sets.specs.Bits.{nonEmpty}
 use Rattle.register.specs.Register.{Contents}
+use Rattle.register.specs.Records.{hasRecord}
 use Rattle.directive.specs.declared.Subject.{Subject}
 use Rattle.directive.specs.declared.Subject.the-variants.{Person, Role}
 use Rattle.directive.specs.declared.Directive.{Directive}
 use Rattle.directive.specs.declared.Query.{Query}
-use Rattle.directive.specs.Form.{Draft, draftSize, draftOf, keepsRanges, directiveOf}
+use Rattle.directive.specs.declared.Draft.{Draft}
+use Rattle.directive.specs.Form.{draftSize, draftOf, keepsRanges, directiveOf}
 use Rattle.validation.specs.Requests.{origins, purposes}
 use Rattle.validation.specs.Judgement.{Judgement}
 use Rattle.ledger.specs.Model.{Model}
-use Rattle.ledger.specs.Answer.{Answer, done, refused}
+use Rattle.ledger.specs.Answer.{Answer, refused}
 use Rattle.ledger.specs.Decision.{lowestNumber}
 
 -- A question: its number, what a "no" adds to the number, and whether the answer is yes.
@@ -36,9 +38,10 @@ firstNo (q ∷ qs) a = pick (q .holds) (firstNo qs a) (refused (q .number) (q .a
 abbrev pub passes : List Question → Bool
 passes qs = all (λ q. q .holds) qs
 
--- the questions up to number n
-abbrev pub upTo : ℕ → List Question → List Question
-upTo n qs = keep (λ q. leb (q .number) n) qs
+-- the questions before number n
+unfoldable pub before : ℕ → List Question → List Question
+before n [] = []
+before n (q ∷ qs) = pick (eqb (q .number) n) [] (q ∷ before n qs)
 
 -- An answer and the model after it.
 pub record Outcome : Type 0 where
@@ -105,7 +108,7 @@ unfoldable pub draftQuestions : Judgement → Model → List ℕ → List Questi
 draftQuestions j m s =
     ask 6 (eqb (length s) draftSize)
     ∷ (directiveQuestions j m (draftOf s)
-    ++ (ask 14 (not (j .covers (m .register) (m .clock) (directiveOf (draftOf s)) (m .active))) ∷ []))
+    ++ (ask 14 (not (j .repeats (m .register) (m .clock) (directiveOf (draftOf s)) (m .active))) ∷ []))
 
 -- "Revoke: is that number active? 15."
 abbrev pub revokeQuestions : Model → ℕ → List Question
@@ -120,7 +123,7 @@ abbrev pub decideQuestions : Model → Query → List Question
 decideQuestions m q =
     ask 17
     (ltb (q .role) (length (m .register .roles))
-    && ltb (q .«record») (length (m .register .records))
+    && hasRecord (m .register .records) (q .«record»)
     && ltb (q .origin) origins
     && ltb (q .purpose) purposes)
     ∷ []

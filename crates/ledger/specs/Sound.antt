@@ -5,7 +5,7 @@ use mathlib.Core.Bool.{Bool, true, _&&_, not}
 use lib.ListN.{length}
 use lib.Dec.{eqb, ltb}
 use Rattle.sets.specs.Quantifiers.{allBelow, all, pairwise}
-use Rattle.sets.specs.Bits.{inBits, isSet}
+use Rattle.sets.specs.Bits.{inBits, nonEmptySet}
 use Rattle.register.specs.Register.{Contents}
 use Rattle.register.specs.Tree.{isTree}
 use Rattle.register.specs.Records.{recordAt}
@@ -25,19 +25,19 @@ pub record SoundRegister (c : Contents) : Type 0 where
   pub records-few : length (c .records) ≤ 128
   pub records-fit : allBelow (length (c .records)) (λ x. recordFits x (recordAt (c .records) x)) ≡ true
   pub records-wide : all recordWidths (c .records) ≡ true
-  pub together : eqb (length (c .roles)) 0 ≡ eqb (length (c .records)) 0
+  pub roles-with-records : 0 < length (c .records) → 0 < length (c .roles)
 
 -- an active directive has passed 7, 8 and 9, and has not run out
 abbrev pub stands : Model → Directive → Bool
 stands m d = wellFormed d && inRegister (m .register) d && hasMinutes (m .clock) d
 
 -- a token is live, of the widths of its numbers, and has a state
-abbrev pub isLive : ℕ → Token → Bool
-isLive clock t =
+abbrev pub soundToken : ℕ → Token → Bool
+soundToken clock t =
     ltb clock (t .until)
     && inBits 16 (t .number)
     && inBits 16 (t .person)
-    && isSet 8 (t .states)
+    && nonEmptySet 8 (t .states)
     && inBits 32 (t .until)
 
 pub record SoundModel (m : Model) : Type 0 where
@@ -47,10 +47,10 @@ pub record SoundModel (m : Model) : Type 0 where
   pub active-few : length (m .active) ≤ activePlaces
   pub active-stand : all (stands m) (m .active) ≡ true
   pub active-differ : pairwise (λ d e. not (eqb (d .number) (e .number))) (m .active) ≡ true
-  pub baseline-spared : all (λ d. not (breaksBaseline (m .register) (m .patient) (m .clock) d)) (m .active) ≡ true
+  pub baseline-kept : all (λ d. not (breaksBaseline (m .register) (m .patient) (m .clock) d)) (m .active) ≡ true
   pub no-clash : pairwise (λ d e. not (conflict (m .register) (m .clock) d e)) (m .active) ≡ true
   pub tokens-few : length (m .tokens) ≤ tokenPlaces
-  pub tokens-live : all (isLive (m .clock)) (m .tokens) ≡ true
+  pub tokens-live : all (soundToken (m .clock)) (m .tokens) ≡ true
   pub tokens-differ : pairwise (λ t k. not (eqb (t .number) (k .number))) (m .tokens) ≡ true
 
 -- A ledger is sound when its counts keep within its arrays and its view is. What stands past a count is free.

@@ -1,7 +1,7 @@
 -- XACML 3.0's combining of results, over those that a directive can give, and what the directives say by it.
 use Prim.Native.Nat.{ℕ}
 use mathlib.Core.Bool.{Bool, true, false}
-use mathlib.Core.List.{List, [], map}
+use mathlib.Core.List.{List, [], _∷_, map}
 use Rattle.sets.specs.Quantifiers.{pick, some}
 use Rattle.directive.specs.declared.Directive.{Directive}
 use Rattle.directive.specs.declared.Request.{Request}
@@ -9,7 +9,7 @@ use Rattle.directive.specs.declared.Query.{Query}
 use Rattle.directive.specs.Matching.{matches, requestAt}
 use Rattle.register.specs.Register.{Contents}
 use Rattle.ledger.specs.Model.{Model}
-use Rattle.ledger.specs.Decision.{defaultPermits}
+use Rattle.ledger.specs.Decision.{lowest, defaultPermits}
 
 pub data Result : Type 0 where
   Permit : Result
@@ -41,6 +41,11 @@ resultOf c q d = pick (matches c d q) (pick (d .permit) Permit Deny) NotApplicab
 
 abbrev pub results : Model → Query → List Result
 results m q = map (resultOf (m .register) (requestAt q (m .clock))) (m .active)
+
+-- what the directives that match say: nothing, or their effect
+abbrev pub directivesSay : List Directive → Result
+directivesSay [] = NotApplicable
+directivesSay (d ∷ ds) = pick (lowest d ds .permit) Permit Deny
 
 -- the effect and the basis that a combined result leads to: "a combined NotApplicable leads to basis 4"
 pub record Effect : Type 0 where

@@ -1,2 +1,2 @@
-pub mod Tree
-pub mod Records
+pub mod TreeLaws
+pub mod ReachLaws

@@ -1,5 +1,5 @@
 -- Laws of `keep`: what passes stays, and what does not pass leaves the list shorter.
-use Prim.Native.Nat.{suc, _<_, _≤_}
+use Prim.Native.Nat.{ℕ, suc, _<_, _≤_}
 use mathlib.Core.Path.{_≡_, refl}
 use mathlib.Core.Bool.{Bool, true, false}
 use mathlib.Core.List.{List, [], _∷_, List·Memᴰ, List·Memᴰ·head, List·Memᴰ·tail}
@@ -12,15 +12,6 @@ one-more true x l = omega arith
 one-more false x l = omega arith
 
 module _ {A : Type 0} (p : A → Bool) where
-  pub mem-keep : (l : List A) (a : A) → List·Memᴰ a l → p a ≡ true → List·Memᴰ a (keep p l)
-  unfolding keep
-  mem-keep (x ∷ l) a (List·Memᴰ·head q) e = rw (← q, e) (List·Memᴰ·head refl)
-  mem-keep (x ∷ l) a (List·Memᴰ·tail m) e =
-      elim (p x) as (λ b. List·Memᴰ a (pick b (x ∷ keep p l) (keep p l))) [
-        | true ↦ List·Memᴰ·tail (mem-keep l a m e)
-        | false ↦ mem-keep l a m e
-      ]
-
   pub keep-short : (l : List A) → length (keep p l) ≤ length l
   unfolding keep
   keep-short [] = omega arith
@@ -30,3 +21,12 @@ module _ {A : Type 0} (p : A → Bool) where
   unfolding keep
   keep-shorter (x ∷ l) a (List·Memᴰ·head q) e = rw (← q, e) (omega (arith, keep-short l))
   keep-shorter (x ∷ l) a (List·Memᴰ·tail m) e = omega (arith, one-more (p x) x (keep p l), keep-shorter l a m e)
+
+  pub mem-keep : (l : List A) (a : A) → List·Memᴰ a l → p a ≡ true → List·Memᴰ a (keep p l)
+  unfolding keep
+  mem-keep (x ∷ l) a (List·Memᴰ·head q) e = rw (← q, e) (List·Memᴰ·head refl)
+  mem-keep (x ∷ l) a (List·Memᴰ·tail m) e =
+      elim (p x) as (λ b. List·Memᴰ a (pick b (x ∷ keep p l) (keep p l))) [
+        | true ↦ List·Memᴰ·tail (mem-keep l a m e)
+        | false ↦ mem-keep l a m e
+      ]

@@ -1,2 +1,7 @@
 pub mod Quantifiers
 pub mod Keep
+pub mod Lists
+pub mod Ranges
+pub mod BitLaws
+pub mod WordLaws
+pub mod Numbers

@@ -31,6 +31,12 @@ pub and-both : (a b : Bool) → a && b ≡ true → (a ≡ true) × (b ≡ true)
 and-both true b e = (refl, e)
 and-both false b e = both-ways e refl
 
+pub and-left : (a b : Bool) → a && b ≡ true → a ≡ true
+and-left a b e = and-both a b e .0
+
+pub and-right : (a b : Bool) → a && b ≡ true → b ≡ true
+and-right a b e = and-both a b e .1
+
 -- the second test counts only where the first passes
 pub and-where : (a b c : Bool) → (a ≡ true → b ≡ c) → a && b ≡ a && c
 and-where true b c f = f refl

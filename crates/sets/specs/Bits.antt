@@ -1,6 +1,6 @@
 -- Sets of small numbers, as the bits of a number. Bit 0 is the lowest.
 use Prim.Native.Nat.{ℕ, zero, suc, _+_, _*_, _/_, _%_, _^_}
-use mathlib.Core.Bool.{Bool, true, false, _&&_}
+use mathlib.Core.Bool.{Bool, _&&_}
 use lib.Dec.{eqb, ltb}
 use Rattle.sets.specs.Quantifiers.{one, allOf, someOf}
 
@@ -30,5 +30,5 @@ abbrev pub inBits : ℕ → ℕ → Bool
 inBits n v = ltb v (2 ^ n)
 
 -- a is a set of numbers below n that is not empty
-abbrev pub isSet : ℕ → ℕ → Bool
-isSet n a = nonEmpty a && inBits n a
+abbrev pub nonEmptySet : ℕ → ℕ → Bool
+nonEmptySet n a = nonEmpty a && inBits n a

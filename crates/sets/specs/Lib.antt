@@ -1,3 +1,4 @@
 pub mod Quantifiers
 pub mod Bits
 pub mod Numbers
+pub mod Words

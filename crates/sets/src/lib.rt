@@ -1,1 +1,5 @@
-// Bounded quantifiers, sets as bits of a number, and big-endian numbers: definitions and laws.
+// Sets as bits of a number, sets of records as two words, and big-endian numbers.
+
+pub mod bits;
+pub mod number;
+pub mod words;

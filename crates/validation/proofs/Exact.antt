@@ -11,9 +11,9 @@ use Rattle.directive.specs.declared.Directive.{Directive}
 use Rattle.validation.specs.Requests.{persons}
 use Rattle.validation.specs.Meaning.{sameEffect, conflict, breaksBaseline, redundant}
 use Rattle.validation.specs.Search.{conflictFound, breaksBaselineFound, redundantFound, Fit}
-use Rattle.validation.proofs.Conflict.{conflict-read, conflict-make, overlap-read, overlap-make}
-use Rattle.validation.proofs.Baseline.{baseline-read, baseline-make, baseline-found-read, baseline-found-make}
-use Rattle.validation.proofs.Redundant.{redundant-read, redundant-make, redundant-found-read, redundant-found-make}
+use Rattle.validation.proofs.ConflictLaws.{conflict-read, conflict-make, overlap-read, overlap-make}
+use Rattle.validation.proofs.BaselineLaws.{baseline-read, baseline-make, baseline-found-read, baseline-found-make}
+use Rattle.validation.proofs.RedundantLaws.{redundant-read, redundant-make, redundant-found-read, redundant-found-make}
 
 -- Two directives of opposite effect match a request in common exactly where they overlap in each dimension.
 pub conflict-exact :

@@ -1,7 +1,7 @@
 pub mod Requests
 pub mod Fresh
 pub mod Minutes
-pub mod Conflict
-pub mod Baseline
-pub mod Redundant
+pub mod ConflictLaws
+pub mod BaselineLaws
+pub mod RedundantLaws
 pub mod Exact

@@ -12,7 +12,7 @@ use Rattle.directive.specs.declared.Directive.{Directive}
 use Rattle.directive.specs.declared.Request.{Request}
 use Rattle.directive.specs.Selection.{selects}
 use Rattle.directive.specs.Matching.{subjectCovers, inMinutes, matches}
-use Rattle.directive.proofs.Matching.{in-minutes-read, in-minutes-make}
+use Rattle.directive.proofs.MatchLaws.{in-minutes-read, in-minutes-make}
 use Rattle.validation.specs.Requests.{persons, origins, purposes, minutes, request, everyRequest, someRequest, InRange}
 use Rattle.validation.specs.Search.{fromOrigin, forPurpose, admits}
 

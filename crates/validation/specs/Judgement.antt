@@ -1,11 +1,10 @@
--- Conflict, baseline and redundancy together: as they are meant, over all requests, and as the search finds them.
+-- Conflict, baseline and redundancy together.
 use Prim.Native.Nat.{ℕ}
 use mathlib.Core.Bool.{Bool}
 use mathlib.Core.List.{List}
 use Rattle.register.specs.Register.{Contents}
 use Rattle.directive.specs.declared.Directive.{Directive}
 use Rattle.validation.specs.Meaning.{conflict, breaksBaseline, redundant}
-use Rattle.validation.specs.Search.{conflictFound, breaksBaselineFound, redundantFound}
 
 pub record Judgement : Type 0 where
   -- register, clock, two directives
@@ -13,12 +12,8 @@ pub record Judgement : Type 0 where
   -- register, patient, clock, a directive
   pub breaks : Contents → ℕ → ℕ → Directive → Bool
   -- register, clock, a directive, the active ones
-  pub covers : Contents → ℕ → Directive → List Directive → Bool
+  pub repeats : Contents → ℕ → Directive → List Directive → Bool
 
--- what document 01 says
+-- as document 01 means them, over all requests
 abbrev pub meant : Judgement
-meant = record { conflicts = conflict; breaks = breaksBaseline; covers = redundant }
-
--- what can be computed; proofs/Exact.antt has that the two agree
-abbrev pub found : Judgement
-found = record { conflicts = conflictFound; breaks = breaksBaselineFound; covers = redundantFound }
+meant = record { conflicts = conflict; breaks = breaksBaseline; repeats = redundant }

@@ -2,3 +2,4 @@ pub mod Requests
 pub mod Meaning
 pub mod Search
 pub mod Judgement
+pub mod Found

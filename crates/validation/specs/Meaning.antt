@@ -25,7 +25,7 @@ abbrev pub hasBaseline : Contents → ℕ → ℕ → ℕ → Bool
 hasBaseline c patient n x = eqb (recordAt (c .records) x .author) n || eqb patient n
 
 -- "A deny that names a person breaks the baseline when it matches some request of that person on a record they authored, or
--- any request if that person is the patient. A deny on a role breaks nothing."
+-- any request if that person is the patient. A deny on a role breaks nothing, as the baseline is decided first."
 abbrev pub breaksFor : Contents → ℕ → ℕ → Directive → Subject → Bool
 breaksFor c patient clock d (Person n) =
     someRequest c clock (λ q. matches c d q && eqb (q .person) n && hasBaseline c patient n (q .«record»))

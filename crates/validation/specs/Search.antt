@@ -1,4 +1,4 @@
--- How a conflict, a broken baseline and a redundant directive are found, with neither persons nor minutes gone through.
+-- How a conflict, a broken baseline and a redundant directive are found, without going through all persons and all minutes.
 use Prim.Native.Nat.{ℕ, _<_, _≤_, max, min}
 use mathlib.Core.Bool.{Bool, true, false, _&&_, not}
 use mathlib.Core.List.{List, _∷_, map}

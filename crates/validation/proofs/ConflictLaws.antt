@@ -10,14 +10,14 @@ use Rattle.sets.specs.Quantifiers.{someOf}
 use Rattle.sets.proofs.Quantifiers.{same-test, and-both, some-of}
 use Rattle.register.specs.Register.{Contents}
 use Rattle.register.specs.Roles.{covers}
-use Rattle.register.proofs.Tree.{covers-self}
+use Rattle.register.proofs.TreeLaws.{covers-self}
 use Rattle.directive.specs.declared.Subject.{Subject}
 use Rattle.directive.specs.declared.Subject.the-variants.{Person, Role}
 use Rattle.directive.specs.declared.Directive.{Directive}
 use Rattle.directive.specs.declared.Request.{Request}
 use Rattle.directive.specs.Selection.{selects}
 use Rattle.directive.specs.Matching.{subjectCovers, matches}
-use Rattle.directive.proofs.Matching.{matches-read, matches-make}
+use Rattle.directive.proofs.MatchLaws.{matches-read, matches-make}
 use Rattle.validation.specs.Requests.{persons, origins, purposes, request, InRange}
 use Rattle.validation.specs.Meaning.{sameEffect, conflict}
 use Rattle.validation.specs.Search.{fromOrigin, forPurpose, start, subjectsMeet, overlap, SubjectIn, Fit}

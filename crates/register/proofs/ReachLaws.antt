@@ -6,7 +6,7 @@ use mathlib.Core.List.{List}
 use Rattle.sets.proofs.Quantifiers.{never-true, both-ways}
 use Rattle.register.specs.declared.Record.{Record}
 use Rattle.register.specs.Records.{parents, reaches}
-use Rattle.register.proofs.Tree.{not-above-self, parent-above}
+use Rattle.register.proofs.TreeLaws.{not-above-self, parent-above}
 
 module _ (rs : List Record) (r : ℕ) where
   -- "2 all its descendants without itself"

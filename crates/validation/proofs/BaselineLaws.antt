@@ -17,7 +17,7 @@ use Rattle.directive.specs.declared.Directive.{Directive}
 use Rattle.directive.specs.declared.Request.{Request}
 use Rattle.directive.specs.Selection.{selects}
 use Rattle.directive.specs.Matching.{matches}
-use Rattle.directive.proofs.Matching.{matches-read, matches-make, matches-named}
+use Rattle.directive.proofs.MatchLaws.{matches-read, matches-make, matches-named}
 use Rattle.validation.specs.Requests.{origins, purposes, request, InRange}
 use Rattle.validation.specs.Meaning.{hasBaseline, breaksFor, breaksBaseline}
 use Rattle.validation.specs.Search.{fromOrigin, forPurpose, start, breaksForFound, breaksBaselineFound, Fit}

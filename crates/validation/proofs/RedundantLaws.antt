@@ -15,7 +15,7 @@ use Rattle.directive.specs.declared.Request.{Request}
 use Rattle.directive.specs.Selection.{selects}
 use Rattle.directive.specs.Matching.{subjectCovers, inMinutes, matches}
 use Rattle.directive.specs.Form.{numberOf}
-use Rattle.directive.proofs.Matching.{in-minutes-read, in-minutes-make, matches-read, matches-make}
+use Rattle.directive.proofs.MatchLaws.{in-minutes-read, in-minutes-make, matches-read, matches-make}
 use Rattle.validation.specs.Requests.{persons, origins, purposes, request, InRange}
 use Rattle.validation.specs.Meaning.{sameEffect, covered, redundant}
 use Rattle.validation.specs.Search.{fromOrigin, forPurpose, start, standsFor, admits, meets, coveredAt, boundaries, redundantFound, SubjectIn, Fit}

@@ -1,4 +1,4 @@
--- Drafts that stand beside each other, and two orders of a list.
+-- Compatible drafts (document 01: drafts that stand beside each other), and two orders of a list.
 use Prim.Native.Nat.{ℕ, _+_}
 use mathlib.Core.Bool.{Bool, _&&_, not}
 use mathlib.Core.List.{List, [], _∷_}
@@ -8,21 +8,21 @@ use Rattle.sets.specs.Quantifiers.{all, pairwise}
 use Rattle.validation.specs.Meaning.{conflict}
 use Rattle.validation.specs.Judgement.{meant}
 use Rattle.ledger.specs.Model.{Model}
-use Rattle.ledger.specs.Questions.{passes, upTo, draftQuestions, activePlaces}
+use Rattle.ledger.specs.Questions.{passes, before, draftQuestions, activePlaces}
 use Rattle.ledger.specs.Calls.{drafted}
 
 -- "Drafts stand beside each other when each passes 6 to 13 in the ledger at hand, their numbers differ, no two conflict, and
 -- with the active they are at most 32."
-unfoldable pub standBeside : Model → List (List ℕ) → Bool
-standBeside m ss =
-    all (λ s. passes (upTo 13 (draftQuestions meant m s))) ss
+unfoldable pub compatible : Model → List (List ℕ) → Bool
+compatible m ss =
+    all (λ s. passes (before 14 (draftQuestions meant m s))) ss
     && pairwise (λ s t. not (eqb (drafted s .number) (drafted t .number))) ss
     && pairwise (λ s t. not (conflict (m .register) (m .clock) (drafted s) (drafted t))) ss
     && leb (length (m .active) + length ss) activePlaces
 
 -- "Two orders of committing each once": the one list is the other in another order.
 pub data Reordered {A : Type 0} : List A → List A → Type 0 where
-  none : Reordered [] []
+  nil : Reordered [] []
   first : {a : A} {s t : List A} → Reordered s t → Reordered (a ∷ s) (a ∷ t)
   swap : {a b : A} {s : List A} → Reordered (a ∷ b ∷ s) (b ∷ a ∷ s)
   again : {s t u : List A} → Reordered s t → Reordered t u → Reordered s u

@@ -1,0 +1,74 @@
+-- Laws of lists of questions: what the first "no" is, and two lists that are answered alike.
+use mathlib.Core.Path.{_≡_, refl, sym, ap, _∙_}
+use mathlib.Core.Bool.{Bool, true, false, _&&_}
+use mathlib.Core.Logic.{_⊎_, inl, inr, ⊎-elim}
+use mathlib.Core.List.{List, [], _∷_, _++_, List·Memᴰ, List·Memᴰ·head, List·Memᴰ·tail}
+use Rattle.sets.specs.Quantifiers.{pick, all}
+use Rattle.sets.proofs.Quantifiers.{either-way, and-where}
+use Rattle.sets.proofs.Lists.{all-append}
+use Rattle.ledger.specs.Model.{Model}
+use Rattle.ledger.specs.Answer.{Answer, refused}
+use Rattle.ledger.specs.Questions.{Question, firstNo, passes, Outcome, outcome}
+
+pub first-append : (qs rs : List Question) (a : Answer) → firstNo (qs ++ rs) a ≡ firstNo qs (firstNo rs a)
+unfolding firstNo
+first-append [] rs a = refl
+first-append (q ∷ qs) rs a = rw (first-append qs rs a)
+
+pub passes-append : (qs rs : List Question) → passes (qs ++ rs) ≡ passes qs && passes rs
+passes-append qs rs = all-append (λ q. q .holds) qs rs
+
+pick-where : (b : Bool) (x y z : Answer) → (b ≡ true → x ≡ y) → pick b x z ≡ pick b y z
+pick-where true x y z f = f refl
+pick-where false x y z f = refl
+
+-- what comes after the questions counts only where they are passed
+pub first-where : (qs : List Question) (a b : Answer) → (passes qs ≡ true → a ≡ b) → firstNo qs a ≡ firstNo qs b
+unfolding firstNo all
+first-where [] a b f = f refl
+first-where (q ∷ qs) a b f = pick-where (q .holds) _ _ _ (λ e. first-where qs a b (λ r. f (rw (e, r))))
+
+-- the answer is the one after the questions, or a refusal by one of them
+pub first-of :
+    (qs : List Question) (a : Answer) →
+    (firstNo qs a ≡ a) ⊎ ((q : Question) × List·Memᴰ q qs × (firstNo qs a ≡ refused (q .number) (q .adds)))
+unfolding firstNo
+first-of [] a = inl refl
+first-of (q ∷ qs) a =
+    ⊎-elim
+    (λ e.
+    ⊎-elim
+    (λ same. inl (rw e same))
+    (λ by. inr (by .0, List·Memᴰ·tail (by .1), rw e (by .2)))
+    (first-of qs a))
+    (λ e. inr (q, List·Memᴰ·head refl, rw e))
+    (either-way (q .holds))
+
+-- Whatever comes after them, both lists are answered alike.
+pub record Alike (qs rs : List Question) : Type 0 where
+  pub answer : (a : Answer) → firstNo qs a ≡ firstNo rs a
+  pub passed : passes qs ≡ passes rs
+
+pub alike-same : {qs rs : List Question} → qs ≡ rs → Alike qs rs
+alike-same e = record { answer = λ a. rw e; passed = rw e }
+
+-- later questions count only where the earlier ones are passed
+pub alike-append :
+    {qs rs us vs : List Question} → Alike qs rs → (passes qs ≡ true → Alike us vs) → Alike (qs ++ us) (rs ++ vs)
+alike-append {qs} {rs} {us} {vs} h f =
+    record {
+      answer = λ a.
+          first-append qs us a
+          ∙ first-where qs _ _ (λ e. f e .answer a)
+          ∙ h .answer (firstNo vs a)
+          ∙ sym (first-append rs vs a);
+      passed =
+          passes-append qs us
+          ∙ and-where (passes qs) _ _ (λ e. f e .passed)
+          ∙ ap (_&& passes vs) (h .passed)
+          ∙ sym (passes-append rs vs);
+    }
+
+pub alike-outcome :
+    {qs rs : List Question} → Alike qs rs → (m : Model) (o : Outcome) → outcome qs m o ≡ outcome rs m o
+alike-outcome h m o = rw (h .answer (o .answer), h .passed)

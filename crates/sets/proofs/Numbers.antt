@@ -1,0 +1,98 @@
+-- Laws of numbers as bytes, high byte first: the bound of a number of n bytes, the two round trips, and numbers read from a part.
+use Prim.Native.Nat.{ℕ, zero, suc, _+_, _-_, _*_, _/_, _%_, _^_, _<_, _≤_}
+use mathlib.Core.Path.{_≡_, refl, sym, ap, _∙_}
+use mathlib.Core.Bool.{Bool, true, _&&_, and-assoc}
+use mathlib.Core.List.{List, [], _∷_, _++_, append-nil}
+use native.Mathlib.Nat.{add-zero, add-suc, suc-add, zero-add, mul-assoc, pow-suc, pow-succ', div-add-mod', mul-le-mul-right, lt-of-lt-of-le, min-le-left, pow-le-pow-right, add-sub-of-le}
+use native.Mathlib.Numerals.{add-one}
+use native.Mathlib.Omega.{arith}
+use borrow.Author.Tests.{ltb-true, lt-ltb}
+use lib.Dec.{ltb, lit<}
+use lib.Arith.{digits-div, digits-mod}
+use lib.ListN.{length, getD, set, take, drop, length-append, length-take, length-drop, take-append-drop}
+use lib.Seq.{sets, drop-cons, append-snoc, take-append-le, drop-append-le, drop-append-add}
+use Rattle.sets.specs.Quantifiers.{all}
+use Rattle.sets.specs.Numbers.{numberFrom, number, numberAt, bytes, isBytes}
+use Rattle.sets.proofs.Quantifiers.{and-both}
+use Rattle.sets.proofs.Lists.{all-append, all-take, all-drop}
+
+-- a number of n bytes is below 256 ^ n
+pub number-from-bound : (a : ℕ) (s : List ℕ) → isBytes s ≡ true → numberFrom a s < (a + 1) * 256 ^ length s
+unfolding numberFrom all
+number-from-bound a [] e = omega arith
+number-from-bound a (b ∷ s) e =
+    let (byte, rest) = and-both (ltb b 256) (isBytes s) e in
+    let le : a * 256 + b + 1 ≤ (a + 1) * 256 = omega (arith, ltb-true b 256 byte) in
+    lt-of-lt-of-le (number-from-bound (a * 256 + b) s rest)
+    (rw (pow-succ', ← (mul-assoc (a + 1) 256 (256 ^ length s))) (mul-le-mul-right (256 ^ length s) le))
+
+pub number-at-bound : (i n : ℕ) (s : List ℕ) → isBytes s ≡ true → numberAt i n s < 256 ^ n
+number-at-bound i n s e =
+    let part = take n (drop i s) in
+    let short : length part ≤ n = rw length-take (min-le-left n (length (drop i s))) in
+    let below = number-from-bound 0 part (all-take _ n (drop i s) (all-drop _ i s e)) in
+    omega (arith, below, pow-le-pow-right {n = 256} (lit< tt) short)
+
+-- bytes after bytes
+pub number-append : (a : ℕ) (s t : List ℕ) → numberFrom a (s ++ t) ≡ numberFrom (numberFrom a s) t
+unfolding numberFrom
+number-append a [] t = refl
+number-append a (b ∷ s) t = number-append (a * 256 + b) s t
+
+pub length-bytes : (n v : ℕ) → length (bytes n v) ≡ n
+unfolding bytes
+length-bytes zero v = refl
+length-bytes (suc n) v = rw (length-append, length-bytes n (v / 256)) (add-one n)
+
+pub bytes-are-bytes : (n v : ℕ) → isBytes (bytes n v) ≡ true
+unfolding bytes all
+bytes-are-bytes zero v = refl
+bytes-are-bytes (suc n) v =
+    rw (all-append, bytes-are-bytes n (v / 256), lt-ltb (v % 256) 256 (omega arith))
+
+-- what is written is read, and what is read is written
+pub number-of-bytes : (n v : ℕ) → v < 256 ^ n → number (bytes n v) ≡ v
+unfolding numberFrom bytes
+number-of-bytes zero v h = omega arith
+number-of-bytes (suc n) v h =
+    rw (number-append, number-of-bytes n (v / 256) (omega (arith, pow-suc 256 n))) (div-add-mod' v 256)
+
+bytes-after :
+    (n a : ℕ) (s : List ℕ) → isBytes s ≡ true → bytes (n + length s) (numberFrom a s) ≡ bytes n a ++ s
+unfolding numberFrom bytes all
+bytes-after n a [] e = rw (add-zero, append-nil)
+bytes-after n a (b ∷ s) e =
+    let (byte, rest) = and-both (ltb b 256) (isBytes s) e in
+    let small = ltb-true b 256 byte in
+    ap (λ (m : ℕ). bytes m (numberFrom (a * 256 + b) s)) (add-suc n (length s) ∙ sym (suc-add n (length s)))
+    ∙ bytes-after (suc n) (a * 256 + b) s rest
+    ∙ rw (digits-div a small, digits-mod a small) (append-snoc (bytes n a) b s)
+
+pub bytes-of-number : (s : List ℕ) → isBytes s ≡ true → bytes (length s) (number s) ≡ s
+unfolding bytes
+bytes-of-number s e = ap (λ (n : ℕ). bytes n (number s)) (sym (zero-add (length s))) ∙ bytes-after 0 0 s e
+
+-- a number that is read from one of two parts
+pub number-at-left :
+    (i n : ℕ) (s t : List ℕ) → i + n ≤ length s → numberAt i n (s ++ t) ≡ numberAt i n s
+number-at-left i n s t h =
+    rw (drop-append-le i s t (omega arith), take-append-le n (drop i s) t (rw length-drop (omega arith)))
+
+pub number-at-right :
+    (i n : ℕ) (s t : List ℕ) → length s ≤ i → numberAt i n (s ++ t) ≡ numberAt (i - length s) n t
+number-at-right i n s t h =
+    ap (λ (k : ℕ). numberAt k n (s ++ t)) (sym (add-sub-of-le h)) ∙ rw (drop-append-add s t (i - length s))
+
+-- a number of n + 1 bytes is read from its first byte on
+pub number-next :
+    (a i j n : ℕ) (s : List ℕ) → i < length s → j ≡ suc i →
+    numberFrom a (take (suc n) (drop i s)) ≡ numberFrom (a * 256 + getD s i 0) (take n (drop j s))
+unfolding numberFrom
+number-next a i j n s h e = rw (drop-cons s i 0 h, e)
+
+-- a run of stores after a run of stores
+pub sets-append :
+    {A : Type 0} (l : List A) (i : ℕ) (vs ws : List A) →
+    sets (sets l i vs) (i + length vs) ws ≡ sets l i (vs ++ ws)
+sets-append l i [] ws = rw add-zero
+sets-append l i (v ∷ vs) ws = rw (add-suc, ← (suc-add i (length vs))) (sets-append (set l i v) (suc i) vs ws)

@@ -1,0 +1,19 @@
+-- Sets of numbers below 128, as two 64-bit words: "bit i for record i (word i / 64, bit i mod 64)".
+use Prim.Native.Nat.{ℕ, _+_, _-_, _*_}
+use mathlib.Core.Bool.{Bool, false, _&&_}
+use lib.Dec.{ltb}
+use Rattle.sets.specs.Quantifiers.{pick}
+use Rattle.sets.specs.Bits.{bit, setOf}
+use Rattle.sets.specs.declared.words.Words.{Words}
+
+-- k is in the set
+unfoldable pub contains : Words → ℕ → Bool
+contains w k = pick (ltb k 64) (bit k (w .low)) (bit (k - 64) (w .high) && ltb k 128)
+
+-- word i of those numbers that pass p
+abbrev pub wordOf : (ℕ → Bool) → ℕ → ℕ
+wordOf p i = setOf 64 (λ k. p (64 * i + k))
+
+-- the two words of those numbers below 128 that pass p
+abbrev pub wordsOf : (ℕ → Bool) → Words
+wordsOf p = record { low = wordOf p 0; high = wordOf p 1 }
