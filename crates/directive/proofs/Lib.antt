@@ -1,1 +1,2 @@
 pub mod MatchLaws
+pub mod FormLaws

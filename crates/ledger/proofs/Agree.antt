@@ -1,13 +1,12 @@
 -- The reference model by what is meant and by what is found agree.
 use Prim.Native.Nat.{ℕ, _<_, _≤_}
-use mathlib.Core.Path.{_≡_, refl}
-use mathlib.Core.Bool.{true, false}
+use mathlib.Core.Path.{_≡_, refl, _∙_}
+use mathlib.Core.Bool.{true}
 use mathlib.Core.List.{List, List·Memᴰ}
 use native.Mathlib.Omega.{arith}
 use borrow.Author.Tests.{ltb-true}
 use lib.ListN.{length, take, drop}
-use lib.Dec.{eqb}
-use Rattle.sets.specs.Quantifiers.{pick, all}
+use Rattle.sets.specs.Quantifiers.{all}
 use Rattle.sets.specs.Bits.{inBits}
 use Rattle.sets.specs.Numbers.{isBytes}
 use Rattle.sets.proofs.Quantifiers.{and-left, and-right, every-list}
@@ -18,7 +17,8 @@ use Rattle.directive.specs.declared.Subject.{Subject}
 use Rattle.directive.specs.declared.Subject.the-variants.{Person, Role}
 use Rattle.directive.specs.declared.Directive.{Directive}
 use Rattle.directive.specs.declared.Draft.{Draft}
-use Rattle.directive.specs.Form.{draftOf, subjectOf, directiveOf, numberOf, wellFormed}
+use Rattle.directive.specs.Form.{draftOf, directiveOf, numberOf, wellFormed}
+use Rattle.directive.proofs.FormLaws.{subject-number}
 use Rattle.validation.specs.Requests.{persons, minutes}
 use Rattle.validation.specs.Meaning.{conflict}
 use Rattle.validation.specs.Search.{conflictFound, SubjectIn, Fit}
@@ -50,9 +50,6 @@ bytes-narrow s e =
 subject-in : (c : Contents) (s : Subject) → numberOf s < persons → hasSubject c s ≡ true → SubjectIn c s
 subject-in c (Person n) h e = h
 subject-in c (Role n) h e = ltb-true n _ e
-
-subject-number : (kind n : ℕ) → numberOf (subjectOf kind n) ≡ n
-subject-number kind n = elim (eqb kind 1) as (λ b. numberOf (pick b (Role n) (Person n)) ≡ n) [ true ↦ refl | false ↦ refl ]
 
 -- a draft that passes question 8 means a directive that the search can judge
 pub draft-fit : (c : Contents) (s : Draft) → Narrow s → inRegister c (directiveOf s) ≡ true → Fit c (directiveOf s)

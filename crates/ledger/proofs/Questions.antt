@@ -1,4 +1,5 @@
--- Laws of lists of questions: what the first "no" is, and two lists that are answered alike.
+-- Laws of lists of questions: what the first "no" is, the outcome by it, and two lists that are answered alike.
+use Prim.Native.Nat.{ℕ}
 use mathlib.Core.Path.{_≡_, refl, sym, ap, _∙_}
 use mathlib.Core.Bool.{Bool, true, false, _&&_}
 use mathlib.Core.Logic.{_⊎_, inl, inr, ⊎-elim}
@@ -42,6 +43,20 @@ first-of (q ∷ qs) a =
     (λ by. inr (by .0, List·Memᴰ·tail (by .1), rw e (by .2)))
     (first-of qs a))
     (λ e. inr (q, List·Memᴰ·head refl, rw e))
+    (either-way (q .holds))
+
+-- what holds of the outcome where the questions are passed, and of every refusal with the model as it was, holds of the
+-- outcome
+pub outcome-by :
+    (P : Outcome → Type 0) (qs : List Question) (m : Model) (o : Outcome) →
+    (passes qs ≡ true → P o) → ((n : ℕ) (vs : List ℕ) → P (record { answer = refused n vs; model = m })) →
+    P (outcome qs m o)
+unfolding firstNo all
+outcome-by P [] m o f g = f refl
+outcome-by P (q ∷ qs) m o f g =
+    ⊎-elim
+    (λ (e : q .holds ≡ true). rw e (outcome-by P qs m o (λ r. f (rw (e, r))) g))
+    (λ (e : q .holds ≡ false). rw e (g (q .number) (q .adds)))
     (either-way (q .holds))
 
 -- Whatever comes after them, both lists are answered alike.

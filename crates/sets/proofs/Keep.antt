@@ -1,11 +1,14 @@
--- Laws of `keep`: what passes stays, and what does not pass leaves the list shorter.
-use Prim.Native.Nat.{ℕ, suc, _<_, _≤_}
+-- Laws of `keep` and `count`: what passes stays, what does not pass leaves the list shorter, and what held of the elements
+-- still holds.
+use Prim.Native.Nat.{suc, _+_, _<_, _≤_}
 use mathlib.Core.Path.{_≡_, refl}
-use mathlib.Core.Bool.{Bool, true, false}
+use mathlib.Core.Bool.{Bool, true, false, not}
+use mathlib.Core.Logic.{⊎-elim}
 use mathlib.Core.List.{List, [], _∷_, List·Memᴰ, List·Memᴰ·head, List·Memᴰ·tail}
 use native.Mathlib.Omega.{arith}
 use lib.ListN.{length}
-use Rattle.sets.specs.Quantifiers.{pick, keep}
+use Rattle.sets.specs.Quantifiers.{pick, one, all, some, keep, count, pairwise}
+use Rattle.sets.proofs.Quantifiers.{either-way, both-ways, never-true, and-both, every-list, some-list}
 
 one-more : {A : Type 0} (b : Bool) (x : A) (l : List A) → length (pick b (x ∷ l) l) ≤ suc (length l)
 one-more true x l = omega arith
@@ -30,3 +33,57 @@ module _ {A : Type 0} (p : A → Bool) where
         | true ↦ List·Memᴰ·tail (mem-keep l a m e)
         | false ↦ mem-keep l a m e
       ]
+
+  pub all-keep :
+      (q r : A → Bool) → ((a : A) → p a ≡ true → q a ≡ true → r a ≡ true) →
+      (l : List A) → all q l ≡ true → all r (keep p l) ≡ true
+  unfolding all keep
+  all-keep q r f [] e = refl
+  all-keep q r f (x ∷ l) e =
+      let (here, rest) = and-both (q x) _ e in
+      let kept = all-keep q r f l rest in
+      ⊎-elim
+      (λ (t : p x ≡ true). rw (t, f x t here, kept))
+      (λ (t : p x ≡ false). rw (t, kept))
+      (either-way (p x))
+
+  pub pairwise-keep :
+      (q r : A → A → Bool) → ((a b : A) → q a b ≡ true → r a b ≡ true) →
+      (l : List A) → pairwise q l ≡ true → pairwise r (keep p l) ≡ true
+  unfolding keep pairwise
+  pairwise-keep q r f [] e = refl
+  pairwise-keep q r f (x ∷ l) e =
+      let (here, rest) = and-both (all (q x) l) _ e in
+      let kept = pairwise-keep q r f l rest in
+      ⊎-elim
+      (λ (t : p x ≡ true). rw (t, all-keep (q x) (r x) (λ b _. f x b) l here, kept))
+      (λ (t : p x ≡ false). rw (t, kept))
+      (either-way (p x))
+
+  pub count-keep : (l : List A) → count p l + length (keep (λ a. not (p a)) l) ≡ length l
+  unfolding keep count
+  count-keep [] = refl
+  count-keep (x ∷ l) =
+      let rest = keep (λ a. not (p a)) l in
+      elim (p x) as (λ b. one b + count p l + length (pick (not b) (x ∷ rest) rest) ≡ suc (length l)) [
+        | true ↦ omega (arith, count-keep l)
+        | false ↦ omega (arith, count-keep l)
+      ]
+
+  -- where r holds of any two elements, and of no two that pass, at most one passes
+  pub count-once :
+      (r : A → A → Bool) → ((a b : A) → p a ≡ true → p b ≡ true → r a b ≡ false) →
+      (l : List A) → pairwise r l ≡ true → count p l ≡ one (some p l)
+  unfolding all some count pairwise
+  count-once r f [] e = refl
+  count-once r f (x ∷ l) e =
+      let (here, rest) = and-both (all (r x) l) _ e in
+      let fewer = count-once r f l rest in
+      ⊎-elim
+      (λ (t : p x ≡ true).
+      let others : some p l ≡ false = never-true (some p l) (λ u.
+      let (a, m, v) = some-list l .read p u in both-ways (every-list l .read (r x) here a m) (f x a t v))
+      in
+      rw (t, fewer, others))
+      (λ (t : p x ≡ false). rw (t, fewer) (omega arith))
+      (either-way (p x))

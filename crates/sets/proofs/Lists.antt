@@ -1,10 +1,11 @@
--- Laws of tests over lists: of the parts of a list, and of two tests that agree on its elements.
+-- Laws of tests over lists: of the parts of a list, of one element more, of negation, and of two tests that agree on its
+-- elements.
 use Prim.Native.Nat.{ℕ}
 use mathlib.Core.Path.{_≡_, refl, ap, sym, _∙_}
-use mathlib.Core.Bool.{Bool, true, _&&_, and-assoc}
+use mathlib.Core.Bool.{Bool, true, false, _&&_, _||_, not, and-true, and-assoc, and-comm}
 use mathlib.Core.List.{List, [], _∷_, _++_, List·Memᴰ, List·Memᴰ·head, List·Memᴰ·tail}
 use lib.ListN.{take, drop, take-append-drop}
-use Rattle.sets.specs.Quantifiers.{all, some, keep}
+use Rattle.sets.specs.Quantifiers.{all, some, keep, pairwise}
 use Rattle.sets.proofs.Quantifiers.{and-both}
 
 module _ {A : Type 0} (p : A → Bool) where
@@ -12,6 +13,10 @@ module _ {A : Type 0} (p : A → Bool) where
   unfolding all
   all-append [] t = refl
   all-append (a ∷ s) t = rw (all-append s t, and-assoc (p a) (all p s) (all p t))
+
+  pub all-snoc : (l : List A) (a : A) → all p l ≡ true → p a ≡ true → all p (l ++ (a ∷ [])) ≡ true
+  unfolding all
+  all-snoc l a e t = rw (all-append l (a ∷ []), e, t)
 
   -- what holds of a whole list holds of its first n elements, and of the others
   all-parts : (n : ℕ) (s : List A) → all p s ≡ true → (all p (take n s) ≡ true) × (all p (drop n s) ≡ true)
@@ -23,6 +28,34 @@ module _ {A : Type 0} (p : A → Bool) where
 
   pub all-drop : (n : ℕ) (s : List A) → all p s ≡ true → all p (drop n s) ≡ true
   all-drop n s e = all-parts n s e .1
+
+  -- none passes where each fails
+  pub all-not : (l : List A) → all (λ a. not (p a)) l ≡ not (some p l)
+  unfolding all some
+  all-not [] = refl
+  all-not (a ∷ l) =
+      rw (all-not l) (elim (p a) as (λ b. not b && not (some p l) ≡ not (b || some p l)) [ true ↦ refl | false ↦ refl ])
+
+and-middle : (a b c d : Bool) → a && b && (c && d) ≡ a && c && (b && d)
+and-middle true b c d = rw (← and-assoc b c d, and-comm b c, and-assoc c b d)
+and-middle false b c d = refl
+
+-- with one element more
+pub pairwise-snoc :
+    {A : Type 0} (r : A → A → Bool) (l : List A) (a : A) →
+    pairwise r (l ++ (a ∷ [])) ≡ pairwise r l && all (λ x. r x a) l
+unfolding all pairwise
+pairwise-snoc r [] a = refl
+pairwise-snoc r (x ∷ l) a =
+    rw (all-append (r x) l (a ∷ []), pairwise-snoc r l a, and-true (r x a))
+    (and-middle (all (r x) l) (r x a) (pairwise r l) (all (λ x. r x a) l))
+
+-- where no earlier one is in the relation r to it
+pub apart-snoc :
+    {A : Type 0} (r : A → A → Bool) (l : List A) (a : A) →
+    pairwise (λ x y. not (r x y)) l ≡ true → some (λ x. r x a) l ≡ false →
+    pairwise (λ x y. not (r x y)) (l ++ (a ∷ [])) ≡ true
+apart-snoc r l a e t = rw (pairwise-snoc (λ x y. not (r x y)) l a, e, all-not (λ x. r x a) l, t)
 
 module _ {A : Type 0} (p q : A → Bool) where
   pub some-alike : (l : List A) → ((a : A) → List·Memᴰ a l → p a ≡ q a) → some p l ≡ some q l

@@ -90,6 +90,11 @@ pub number-next :
 unfolding numberFrom
 number-next a i j n s h e = rw (drop-cons s i 0 h, e)
 
+pub number-first :
+    (i j n : ℕ) (s : List ℕ) → i < length s → j ≡ suc i →
+    numberAt i (suc n) s ≡ numberFrom (getD s i 0) (take n (drop j s))
+number-first i j n s h e = number-next 0 i j n s h e ∙ ap (λ (a : ℕ). numberFrom a (take n (drop j s))) (zero-add (getD s i 0))
+
 -- a run of stores after a run of stores
 pub sets-append :
     {A : Type 0} (l : List A) (i : ℕ) (vs ws : List A) →

@@ -27,6 +27,12 @@ pub never-true : (b : Bool) → (b ≡ true → ⊥) → b ≡ false
 never-true true f = absurd (f refl)
 never-true false f = refl
 
+-- where b says less than a
+pub not-less : (a b : Bool) → (b ≡ true → a ≡ true) → not a ≡ true → not b ≡ true
+not-less true b f e = both-ways e refl
+not-less false true f e = f refl
+not-less false false f e = refl
+
 pub and-both : (a b : Bool) → a && b ≡ true → (a ≡ true) × (b ≡ true)
 and-both true b e = (refl, e)
 and-both false b e = both-ways e refl

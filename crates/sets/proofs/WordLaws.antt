@@ -1,23 +1,24 @@
 -- Laws of sets of numbers below 128 as two words: which bit of which word says that a number is in the set, and that a set is the two
 -- words of its numbers.
 use Prim.Native.Nat.{ℕ, _+_, _-_, _*_, _%_, _^_, _<_, _≤_}
-use mathlib.Core.Path.{_≡_, sym, ap, ap₂, _∙_}
-use mathlib.Core.Bool.{Bool, false, not, _&&_, _||_, and-true, and-false}
+use mathlib.Core.Path.{_≡_, refl, sym, ap, ap₂, _∙_}
+use mathlib.Core.Bool.{Bool, true, false, not, _&&_, _||_, and-true, and-false}
 use native.Mathlib.Nat.{add-sub-cancel-left, add-sub-of-le, zero-add}
 use native.Mathlib.Decide.{decLt}
 use native.Mathlib.Omega.{arith}
 use borrow.Author.Tests.{lt-ltb, le-ltb, eqb-true, eq-eqb, ne-eqb}
-use lib.Dec.{eqb}
+use lib.Dec.{eqb, ltb}
 use lib.Bits.{bitAnd, bitOr}
 use lib.Count.{ones}
-use Rattle.sets.specs.Quantifiers.{someOf, countBelow}
+use Rattle.sets.specs.Quantifiers.{pick, someOf, countBelow}
 use Rattle.sets.specs.Bits.{bit}
 use Rattle.sets.specs.Words.{contains, wordOf, wordsOf}
 use Rattle.sets.specs.declared.words.Words.{Words}
 use Rattle.sets.proofs.Quantifiers.{same-test}
 use Rattle.sets.proofs.Ranges.{some-same, some-split, count-same, count-split}
-use Rattle.sets.proofs.BitLaws.{bit-with, set-bit, set-ext, ones-count, shares-and}
+use Rattle.sets.proofs.BitLaws.{bit-zero, bit-with, set-bit, set-ext, ones-count, shares-and}
 
+-- number k is bit k of the low word, or bit k - 64 of the high one
 module _ (w : Words) (k : ℕ) where
   pub contains-low : k < 64 → contains w k ≡ bit k (w .low)
   unfolding contains
@@ -31,11 +32,19 @@ module _ (w : Words) (k : ℕ) where
   unfolding contains
   contains-past l = rw (le-ltb k 64 (omega arith), le-ltb k 128 l) (and-false (bit (k - 64) (w .high)))
 
-  pub contains-next : k < 64 → contains w (64 + k) ≡ bit k (w .high)
-  unfolding contains
-  contains-next h =
-      rw (le-ltb (64 + k) 64 (omega arith), lt-ltb (64 + k) 128 (omega arith), add-sub-cancel-left 64 k)
-      (and-true (bit k (w .high)))
+pub contains-next : (w : Words) (k : ℕ) → k < 64 → contains w (64 + k) ≡ bit k (w .high)
+contains-next w k h =
+    contains-high w (64 + k) (omega arith) (omega arith)
+    ∙ ap (λ (j : ℕ). bit j (w .high)) (add-sub-cancel-left 64 k)
+
+-- no number is in the set of two words 0
+pub contains-none : (k : ℕ) → contains (record { low = 0; high = 0 }) k ≡ false
+unfolding contains
+contains-none k = rw (bit-zero k, bit-zero (k - 64)) (neither (ltb k 64))
+  where
+    neither : (b : Bool) → pick b false false ≡ false
+    neither true = refl
+    neither false = refl
 
 -- the two words of those numbers that pass p have those numbers, and there are no others
 word-bit : (p : ℕ → Bool) (i k : ℕ) → k < 64 → bit k (wordOf p i) ≡ p (64 * i + k)

@@ -1,9 +1,9 @@
 -- `number::get1`: a number of one byte is that byte.
 use Prim.Native.Nat.{_+_}
-use native.Mathlib.Omega.{arith}
+use mathlib.Core.Path.{sym}
 use borrow.Author.Needs.{needs}
 use Rattle.sets.specs.Numbers.{numberFrom}
-use Rattle.sets.proofs.Numbers.{number-next}
+use Rattle.sets.proofs.Numbers.{number-first}
 use Rattle.sets.proofs.number.get1.Statement.{statement}
 use Rattle.sets.proofs.number.get1.Tie as tie
 
@@ -15,7 +15,7 @@ unfolding numberFrom
 returns c =
     let at = c .before .args .at in
     let s = c .before .args .s .now in
-    omega (arith, number-next 0 at (at + 1) 0 s (search needs) (search needs))
+    sym (number-first at (at + 1) 0 s (search needs) (search needs))
 
 pub get1-spec : {M : Type 1} → statement M
 get1-spec = tie.close (tie.spec shared-slice-read-result returns)

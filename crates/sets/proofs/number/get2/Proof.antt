@@ -1,10 +1,9 @@
 -- `number::get2`: two bytes are read from the first on, and the number is below 65536.
 use Prim.Native.Nat.{_+_}
-use mathlib.Core.Path.{_∙_}
-use native.Mathlib.Omega.{arith}
+use mathlib.Core.Path.{sym, _∙_}
 use borrow.Author.Needs.{needs}
 use Rattle.sets.specs.Numbers.{numberFrom}
-use Rattle.sets.proofs.Numbers.{number-next}
+use Rattle.sets.proofs.Numbers.{number-first, number-next}
 use Rattle.sets.proofs.number.get2.Statement.{statement}
 use Rattle.sets.proofs.number.get2.Tie as tie
 
@@ -37,11 +36,10 @@ unfolding numberFrom
 returns c =
     let at = c .before .before .before .before .before .args .at in
     let s = c .before .before .before .before .before .args .s .now in
-    omega (
-      arith,
-      number-next 0 at (at + 1) 1 s (search needs) (search needs)
-          ∙ number-next _ (at + 1) (at + 2) 0 s (search needs) (search needs),
-    )
+    rw (c .before .before .wide .ensures .0, c .wide2 .ensures .0)
+    (sym
+    (number-first at (at + 1) 1 s (search needs) (search needs)
+    ∙ number-next _ (at + 1) (at + 2) 0 s (search needs) (search needs)))
 
 pub get2-spec : {M : Type 1} → statement M
 get2-spec =

@@ -1,10 +1,9 @@
 -- `number::get4`: four bytes are read from the first on.
 use Prim.Native.Nat.{_+_}
-use mathlib.Core.Path.{_∙_}
-use native.Mathlib.Omega.{arith}
+use mathlib.Core.Path.{sym, _∙_}
 use borrow.Author.Needs.{needs}
 use Rattle.sets.specs.Numbers.{numberFrom}
-use Rattle.sets.proofs.Numbers.{number-next}
+use Rattle.sets.proofs.Numbers.{number-first, number-next}
 use Rattle.sets.proofs.number.get4.Statement.{statement}
 use Rattle.sets.proofs.number.get4.Tie as tie
 
@@ -64,13 +63,17 @@ unfolding numberFrom
 returns c =
     let at = c .before .before .before .before .before .before .before .before .before .args .at in
     let s = c .before .before .before .before .before .before .before .before .before .args .s .now in
-    omega (
-      arith,
-      number-next 0 at (at + 1) 3 s (search needs) (search needs)
-          ∙ number-next _ (at + 1) (at + 2) 2 s (search needs) (search needs)
-          ∙ number-next _ (at + 2) (at + 3) 1 s (search needs) (search needs)
-          ∙ number-next _ (at + 3) (at + 4) 0 s (search needs) (search needs),
+    rw (
+      c .before .before .before .before .before .before .wide .ensures .0,
+      c .before .before .before .before .wide2 .ensures .0,
+      c .before .before .wide3 .ensures .0,
+      c .wide4 .ensures .0,
     )
+    (sym
+    (number-first at (at + 1) 3 s (search needs) (search needs)
+    ∙ number-next _ (at + 1) (at + 2) 2 s (search needs) (search needs)
+    ∙ number-next _ (at + 2) (at + 3) 1 s (search needs) (search needs)
+    ∙ number-next _ (at + 3) (at + 4) 0 s (search needs) (search needs)))
 
 pub get4-spec : {M : Type 1} → statement M
 get4-spec =

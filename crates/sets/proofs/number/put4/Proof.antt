@@ -1,4 +1,4 @@
--- `number::put4`: the four bytes are the remainders of three divisions by 256; the first needs none.
+-- `number::put4`: dividing by 256 two and three times is dividing by 65536 and 16777216; the first byte needs no remainder.
 use Prim.Native.Nat.{_/_}
 use native.Mathlib.Nat.{mod-eq-of-lt, div-div-eq-div-mul}
 use native.Mathlib.Numerals.{add-one, add-two, add-three}
