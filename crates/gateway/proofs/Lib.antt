@@ -1,0 +1,10 @@
+pub mod Runs
+pub mod Passing
+pub mod DemandOne
+pub mod Counting
+pub mod Clash
+pub mod Decisions
+pub mod Combining
+pub mod Exactness
+pub mod DemandTwo
+pub mod DemandThree
