@@ -1,0 +1,17 @@
+//! The program `cardcheck`.
+
+use std::io::{self, Read};
+
+use crate::answer::{Answer, CardSize};
+use crate::card;
+
+/// "Takes the first 65,535 bytes of standard input as a card."
+pub const CARD_LIMIT: u64 = 65_535;
+
+/// The answer to the card at the start of the input.
+pub fn cardcheck(input: impl Read) -> io::Result<Answer> {
+    let mut bytes = Vec::new();
+    input.take(CARD_LIMIT).read_to_end(&mut bytes)?;
+    let ledger = card::read(&bytes);
+    Ok(Answer::Card(ledger.map(|ledger| CardSize::of(&ledger))))
+}

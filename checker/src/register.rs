@@ -1,0 +1,191 @@
+//! The register: roles and records, each with its parent.
+
+/// "Up to 16 roles."
+pub const MAX_ROLES: usize = 16;
+/// "A register has a place for 128 records."
+pub const MAX_RECORDS: usize = 128;
+/// "A type 0..7."
+pub const MAX_TYPE: u8 = 7;
+
+/// A set of records: bit i stands for record i.
+pub type RecordSet = u128;
+
+/// The set of one record; empty for a number that no register has.
+pub fn record_bit(record: u8) -> RecordSet {
+    1u128.checked_shl(u32::from(record)).unwrap_or(0)
+}
+
+/// "A record has an author (person, 16 bits), origins (16-bit set, not
+/// empty), sensitivities (16-bit set, not empty), a type 0..7 and labels
+/// (16-bit set, may be empty)."
+#[derive(Clone, Copy, Debug, PartialEq, Eq)]
+pub struct Record {
+    pub parent: u8,
+    pub author: u16,
+    pub origins: u16,
+    pub sensitivities: u16,
+    pub record_type: u8,
+    pub labels: u16,
+}
+
+impl Record {
+    /// "Parent 1 (record 0 has 0), author 2, origins 2, sensitivities 2,
+    /// type 1, labels 2."
+    pub fn decode(bytes: &[u8; 10]) -> Record {
+        let [parent, a1, a0, o1, o0, s1, s0, record_type, l1, l0] = *bytes;
+        Record {
+            parent,
+            author: u16::from_be_bytes([a1, a0]),
+            origins: u16::from_be_bytes([o1, o0]),
+            sensitivities: u16::from_be_bytes([s1, s0]),
+            record_type,
+            labels: u16::from_be_bytes([l1, l0]),
+        }
+    }
+
+    pub fn encode(&self) -> [u8; 10] {
+        let [a1, a0] = self.author.to_be_bytes();
+        let [o1, o0] = self.origins.to_be_bytes();
+        let [s1, s0] = self.sensitivities.to_be_bytes();
+        let [l1, l0] = self.labels.to_be_bytes();
+        let parent = self.parent;
+        let record_type = self.record_type;
+        [parent, a1, a0, o1, o0, s1, s0, record_type, l1, l0]
+    }
+}
+
+/// "Reach 0 is the record itself, 1 its children, 2 all its descendants
+/// without itself."
+#[derive(Clone, Copy, Debug, PartialEq, Eq)]
+pub enum Reach {
+    Itself,
+    Children,
+    Descendants,
+}
+
+impl Reach {
+    pub fn decode(byte: u8) -> Option<Reach> {
+        match byte {
+            0 => Some(Reach::Itself),
+            1 => Some(Reach::Children),
+            2 => Some(Reach::Descendants),
+            _ => None,
+        }
+    }
+
+    pub fn encode(self) -> u8 {
+        match self {
+            Reach::Itself => 0,
+            Reach::Children => 1,
+            Reach::Descendants => 2,
+        }
+    }
+}
+
+/// Roles and records in order. `ancestors` has, for each record, the records
+/// above it on the way to record 0.
+#[derive(Clone, Debug, Default, PartialEq, Eq)]
+pub struct Register {
+    roles: Vec<u8>,
+    records: Vec<Record>,
+    ancestors: Vec<RecordSet>,
+}
+
+impl Register {
+    /// A register with these roles and no records. "Role 0 is the top; every
+    /// other role has a parent of lower number", and "role 0 has 0". Nothing
+    /// where a parent breaks that, or the roles are not 1 to 16.
+    pub fn with_roles(parents: &[u8]) -> Option<Register> {
+        if parents.is_empty() || parents.len() > MAX_ROLES {
+            return None;
+        }
+        let in_range = parents.iter().enumerate().all(keeps_parent_range);
+        in_range.then(|| Register {
+            roles: parents.to_vec(),
+            ..Register::default()
+        })
+    }
+
+    /// Puts a record last. Nothing, and no change, where it breaks a range or
+    /// all places are taken. "Record 0 is the root; every other record has a
+    /// parent of lower number."
+    pub fn add_record(&mut self, record: Record) -> Option<()> {
+        let number = self.records.len();
+        let in_range = number < MAX_RECORDS
+            && keeps_parent_range((number, &record.parent))
+            && record.origins != 0
+            && record.sensitivities != 0
+            && record.record_type <= MAX_TYPE;
+        if !in_range {
+            return None;
+        }
+        let above = match self.ancestors.get(usize::from(record.parent)) {
+            Some(ancestors) => ancestors | record_bit(record.parent),
+            None => 0,
+        };
+        self.records.push(record);
+        self.ancestors.push(above);
+        Some(())
+    }
+
+    /// The parent of each role, in order.
+    pub fn roles(&self) -> &[u8] {
+        &self.roles
+    }
+
+    pub fn records(&self) -> &[Record] {
+        &self.records
+    }
+
+    pub fn has_role(&self, role: u16) -> bool {
+        usize::from(role) < self.roles.len()
+    }
+
+    pub fn record(&self, record: u8) -> Option<&Record> {
+        self.records.get(usize::from(record))
+    }
+
+    /// The records with their numbers.
+    pub fn numbered_records(&self) -> impl Iterator<Item = (u8, &Record)> {
+        (0u8..).zip(&self.records)
+    }
+
+    /// The numbers of the roles.
+    pub fn role_numbers(&self) -> impl Iterator<Item = u16> + '_ {
+        (0u16..).zip(&self.roles).map(|(number, _)| number)
+    }
+
+    /// "Role r covers role q when r is q or stands above q on the way to
+    /// role 0." Role 0 ends the way, although its parent byte is 0.
+    pub fn covers(&self, r: u16, q: u16) -> bool {
+        match self.roles.get(usize::from(q)) {
+            None => false,
+            Some(_) if r == q => true,
+            Some(_) if q == 0 => false,
+            Some(parent) => self.covers(r, u16::from(*parent)),
+        }
+    }
+
+    /// Whether `record` is within the reach from `top`. The root is no child
+    /// and no descendant of itself, although its parent byte is 0.
+    pub fn reaches(&self, top: u8, reach: Reach, record: u8) -> bool {
+        let number = usize::from(record);
+        match reach {
+            Reach::Itself => record == top && number < self.records.len(),
+            Reach::Children => {
+                let parent = self.records.get(number).map(|found| found.parent);
+                record != 0 && parent == Some(top)
+            }
+            Reach::Descendants => {
+                let ancestors = self.ancestors.get(number).copied().unwrap_or(0);
+                ancestors & record_bit(top) != 0
+            }
+        }
+    }
+}
+
+/// Number 0 has parent 0, every other number a lower one.
+fn keeps_parent_range((number, parent): (usize, &u8)) -> bool {
+    let parent = usize::from(*parent);
+    parent < number || (number == 0 && parent == 0)
+}

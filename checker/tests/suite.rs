@@ -1,0 +1,18 @@
+//! The tests of the checker, as one program.
+
+mod balance;
+mod cases;
+mod definition;
+mod enumeration;
+mod full_register;
+mod generator;
+mod near_readings;
+mod order;
+mod programs;
+mod questions;
+mod readings;
+mod replay_format;
+mod round_trip;
+mod samples;
+mod small_world;
+mod support;
