@@ -4,28 +4,26 @@ use mathlib.Core.Path.{_≡_, refl, sym, _∙_}
 use mathlib.Core.Bool.{Bool, true, false}
 use mathlib.Core.Logic.{⊎-elim}
 use mathlib.Core.List.{List, [], _∷_, map, List·Memᴰ, List·Memᴰ·head, List·Memᴰ·tail, List·Memᴰ·cases-cons}
-use native.Mathlib.Omega.{arith}
-use borrow.Author.Tests.{ltb-true}
-use lib.ListN.{take}
-use Rattle.sets.specs.Quantifiers.{pick, one, all, some, keep}
-use Rattle.sets.proofs.Quantifiers.{same-test, either-way, and-left, and-right, some-list}
+use Rattle.sets.specs.Quantifiers.{pick, some, keep}
+use Rattle.sets.proofs.Quantifiers.{same-test, either-way, some-list}
 use Rattle.register.specs.Register.{Contents}
 use Rattle.directive.specs.declared.Directive.{Directive}
 use Rattle.directive.specs.declared.Request.{Request}
 use Rattle.directive.specs.declared.Query.{Query}
 use Rattle.directive.specs.Matching.{matches, requestAt}
-use Rattle.validation.specs.Requests.{persons, minutes, InRange}
+use Rattle.validation.specs.Requests.{persons, InRange}
 use Rattle.ledger.specs.declared.Ledger.{Ledger}
 use Rattle.ledger.specs.declared.answer.DecideAnswer.{DecideAnswer}
 use Rattle.ledger.specs.Model.{Model, view}
-use Rattle.ledger.specs.Decision.{lowest, matching, isPatient, isAuthor, byDefault, byDirectives, decision, decisionValues}
+use Rattle.ledger.specs.Decision.{lowest, matching, isPatient, isAuthor, decision}
 use Rattle.ledger.specs.Xacml.{Result, Permit, Deny, NotApplicable, isPermit, isDeny, denyOverrides, permitOverrides, resultOf, results, directivesSay, effectOf}
 use Rattle.ledger.specs.Questions.{passes, decideQuestions}
 use Rattle.ledger.specs.Sound.{SoundModel, Sound}
 use Rattle.ledger.specs.Promises.{Decides}
 use Rattle.ledger.proofs.Lowest.{lowest-is}
+use Rattle.ledger.proofs.Clash.{no-clash-at}
+use Rattle.ledger.proofs.Saying.{in-range-now, said-effect}
 use Rattle.gateway.specs.Demands.{effectAndBasis, effectValues}
-use Rattle.gateway.proofs.Clash.{one-effect}
 use Rattle.gateway.proofs.Decisions.{decided-kept}
 
 module _ {A : Type 0} (p : A → Bool) where
@@ -48,21 +46,17 @@ module _ {A : Type 0} (p : A → Bool) where
       (λ t. let (a, j, e) = some-list l .read p t in sym (f a j) ∙ e)
       (some-list l .make p x i)
 
--- a query that passes question 17 is a request in range at the clock
-in-range-now :
-    (m : Model) → SoundModel m → (q : Query) → q .person < persons → passes (decideQuestions m q) ≡ true →
-    InRange (m .register) (m .clock) (requestAt q (m .clock))
-unfolding all
-in-range-now m h q person passed =
-    record {
-      person-in = person;
-      role-in = ltb-true _ _ (search (and-left, and-right));
-      origin-in = ltb-true _ _ (search (and-left, and-right));
-      record-in = ltb-true _ _ (search (and-left, and-right));
-      purpose-in = ltb-true _ _ (search (and-left, and-right));
-      minute-in = ltb-true (m .clock) minutes (h .clock-in);
-      not-past = omega arith;
-    }
+-- all active directives that match a request in range are of one effect
+one-effect :
+    (m : Model) → SoundModel m → (d e : Directive) → List·Memᴰ d (m .active) → List·Memᴰ e (m .active) →
+    (q : Request) → InRange (m .register) (m .clock) q →
+    matches (m .register) d q ≡ true → matches (m .register) e q ≡ true → d .permit ≡ e .permit
+one-effect m h d e i j q range by-d by-e =
+    same-test (d .permit) (e .permit)
+    (λ permits.
+    ⊎-elim (λ t. t) (λ denies. absurd (no-clash-at m h d e i j permits denies q range by-d by-e)) (either-way (e .permit)))
+    (λ permits.
+    ⊎-elim (λ t. t) (λ denies. absurd (no-clash-at m h e d j i permits denies q range by-e by-d)) (either-way (d .permit)))
 
 -- the effect of a directive, as a result
 effect : Directive → Result
@@ -122,17 +116,6 @@ module _
     unfolding permitOverrides
     by-permit-overrides = rw (results-say isDeny refl, results-say isPermit refl) (by-permit (directivesSay (matching m q)))
 
--- the effect and the basis of a decision by directives, by what they say
-effect-said :
-    (m : Model) (q : Query) (ds : List Directive) →
-    take 2 (decisionValues (byDirectives ds (byDefault m q))) ≡ effectValues (effectOf m q (directivesSay ds))
-effect-said m q [] = refl
-effect-said m q (d ∷ ds) =
-    elim (lowest d ds .permit) as (λ b. one b ∷ 3 ∷ [] ≡ effectValues (effectOf m q (pick b Permit Deny))) [
-      | true ↦ refl
-      | false ↦ refl
-    ]
-
 -- "outside the baseline a combined NotApplicable leads to basis 4", and another result to its effect and basis 3
 pub by-combined :
     (l : Ledger) → Sound l → (q : Query) (a : DecideAnswer) → q .person < persons → Decides l q a →
@@ -141,4 +124,4 @@ pub by-combined :
 unfolding decision
 by-combined l h q a person decides passed stranger reader =
     rw (decided-kept l h q a decides passed, stranger, reader, ← by-deny-overrides (view l) (h .model) q person passed)
-    (effect-said (view l) q (matching (view l) q))
+    (said-effect (view l) q (matching (view l) q))

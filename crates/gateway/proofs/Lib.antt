@@ -2,7 +2,7 @@ pub mod Runs
 pub mod Passing
 pub mod DemandOne
 pub mod Counting
-pub mod Clash
+pub mod Ordering
 pub mod Decisions
 pub mod Combining
 pub mod Exactness

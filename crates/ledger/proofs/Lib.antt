@@ -4,4 +4,9 @@ pub mod Lowest
 pub mod Agree
 pub mod Soundness
 pub mod Balance
+pub mod Reordering
+pub mod Covering
+pub mod Clash
+pub mod Saying
+pub mod Order
 pub mod Cases

@@ -19,15 +19,20 @@ first-append (q ∷ qs) rs a = rw (first-append qs rs a)
 pub passes-append : (qs rs : List Question) → passes (qs ++ rs) ≡ passes qs && passes rs
 passes-append qs rs = all-append (λ q. q .holds) qs rs
 
-pick-where : (b : Bool) (x y z : Answer) → (b ≡ true → x ≡ y) → pick b x z ≡ pick b y z
-pick-where true x y z f = f refl
-pick-where false x y z f = refl
+-- what comes after the questions counts only where they are passed, in all that f tells of an answer
+module _ {B : Type 0} (f : Answer → B) where
+  pick-where : (b : Bool) (x y z : Answer) → (b ≡ true → f x ≡ f y) → f (pick b x z) ≡ f (pick b y z)
+  pick-where true x y z g = g refl
+  pick-where false x y z g = refl
 
--- what comes after the questions counts only where they are passed
+  pub told-where :
+      (qs : List Question) (a b : Answer) → (passes qs ≡ true → f a ≡ f b) → f (firstNo qs a) ≡ f (firstNo qs b)
+  unfolding firstNo all
+  told-where [] a b g = g refl
+  told-where (q ∷ qs) a b g = pick-where (q .holds) _ _ _ (λ e. told-where qs a b (λ r. g (rw (e, r))))
+
 pub first-where : (qs : List Question) (a b : Answer) → (passes qs ≡ true → a ≡ b) → firstNo qs a ≡ firstNo qs b
-unfolding firstNo all
-first-where [] a b f = f refl
-first-where (q ∷ qs) a b f = pick-where (q .holds) _ _ _ (λ e. first-where qs a b (λ r. f (rw (e, r))))
+first-where = told-where (λ a. a)
 
 -- the answer is the one after the questions, or a refusal by one of them
 pub first-of :

@@ -47,6 +47,17 @@ module _ {A : Type 0} (p : A → Bool) where
       (λ (t : p x ≡ false). rw (t, kept))
       (either-way (p x))
 
+  pub some-keep :
+      (q : A → Bool) → ((a : A) → q a ≡ true → p a ≡ true) → (l : List A) → some q (keep p l) ≡ some q l
+  unfolding some keep
+  some-keep q f [] = refl
+  some-keep q f (x ∷ l) =
+      let kept = some-keep q f l in
+      ⊎-elim
+      (λ (t : p x ≡ true). rw (t, kept))
+      (λ (t : p x ≡ false). rw (t, kept, never-true (q x) (λ u. both-ways (f x u) t)))
+      (either-way (p x))
+
   pub pairwise-keep :
       (q r : A → A → Bool) → ((a b : A) → q a b ≡ true → r a b ≡ true) →
       (l : List A) → pairwise q l ≡ true → pairwise r (keep p l) ≡ true

@@ -1,12 +1,13 @@
--- Laws of tests over lists: of the parts of a list, of one element more, of negation, and of two tests that agree on its
--- elements.
+-- Laws of tests over lists: of the parts of a list, of one element more, of negation, of any two elements, and of two tests
+-- that agree on its elements.
 use Prim.Native.Nat.{ℕ}
 use mathlib.Core.Path.{_≡_, refl, ap, sym, _∙_}
-use mathlib.Core.Bool.{Bool, true, false, _&&_, _||_, not, and-true, and-assoc, and-comm}
+use mathlib.Core.Bool.{Bool, true, false, _&&_, _||_, not, and-true, and-assoc, and-comm, or-false, or-assoc}
+use mathlib.Core.Logic.{_⊎_, inl, inr}
 use mathlib.Core.List.{List, [], _∷_, _++_, List·Memᴰ, List·Memᴰ·head, List·Memᴰ·tail}
 use lib.ListN.{take, drop, take-append-drop}
 use Rattle.sets.specs.Quantifiers.{all, some, keep, pairwise}
-use Rattle.sets.proofs.Quantifiers.{and-both}
+use Rattle.sets.proofs.Quantifiers.{and-both, every-list}
 
 module _ {A : Type 0} (p : A → Bool) where
   pub all-append : (s t : List A) → all p (s ++ t) ≡ all p s && all p t
@@ -36,7 +37,12 @@ module _ {A : Type 0} (p : A → Bool) where
   all-not (a ∷ l) =
       rw (all-not l) (elim (p a) as (λ b. not b && not (some p l) ≡ not (b || some p l)) [ true ↦ refl | false ↦ refl ])
 
-and-middle : (a b c d : Bool) → a && b && (c && d) ≡ a && c && (b && d)
+  pub some-snoc : (l : List A) (a : A) → some p (l ++ (a ∷ [])) ≡ some p l || p a
+  unfolding some
+  some-snoc [] a = or-false (p a)
+  some-snoc (x ∷ l) a = rw (some-snoc l a, or-assoc (p x) (some p l) (p a))
+
+pub and-middle : (a b c d : Bool) → a && b && (c && d) ≡ a && c && (b && d)
 and-middle true b c d = rw (← and-assoc b c d, and-comm b c, and-assoc c b d)
 and-middle false b c d = refl
 
@@ -56,6 +62,19 @@ pub apart-snoc :
     pairwise (λ x y. not (r x y)) l ≡ true → some (λ x. r x a) l ≡ false →
     pairwise (λ x y. not (r x y)) (l ++ (a ∷ [])) ≡ true
 apart-snoc r l a e t = rw (pairwise-snoc (λ x y. not (r x y)) l a, e, all-not (λ x. r x a) l, t)
+
+-- any two elements are one, or in the relation
+pub pairwise-at :
+    {A : Type 0} (r : A → A → Bool) → ((a b : A) → r a b ≡ r b a) → (l : List A) → pairwise r l ≡ true →
+    (a b : A) → List·Memᴰ a l → List·Memᴰ b l → (a ≡ b) ⊎ (r a b ≡ true)
+unfolding pairwise
+pairwise-at r back (x ∷ l) e a b (List·Memᴰ·head i) (List·Memᴰ·head j) = inl (i ∙ sym j)
+pairwise-at r back (x ∷ l) e a b (List·Memᴰ·head i) (List·Memᴰ·tail j) =
+    inr (rw i (every-list l .read (r x) (and-both (all (r x) l) _ e .0) b j))
+pairwise-at r back (x ∷ l) e a b (List·Memᴰ·tail i) (List·Memᴰ·head j) =
+    inr (rw (back a b, j) (every-list l .read (r x) (and-both (all (r x) l) _ e .0) a i))
+pairwise-at r back (x ∷ l) e a b (List·Memᴰ·tail i) (List·Memᴰ·tail j) =
+    pairwise-at r back l (and-both (all (r x) l) _ e .1) a b i j
 
 module _ {A : Type 0} (p q : A → Bool) where
   pub some-alike : (l : List A) → ((a : A) → List·Memᴰ a l → p a ≡ q a) → some p l ≡ some q l
