@@ -1,1 +1,9 @@
 pub mod Reading
+pub mod Step
+pub mod Fields
+pub mod Accepted
+pub mod ReadSound
+pub mod Written
+pub mod ReadBack
+pub mod WriteBack
+pub mod RoundTrip

@@ -8,7 +8,7 @@ use native.Mathlib.Omega.{arith}
 use borrow.Author.Tests.{leb-true}
 use lib.ListN.{length}
 use lib.Dec.{leb}
-use Rattle.sets.specs.Quantifiers.{pick, all}
+use Rattle.sets.specs.Quantifiers.{pick, allIn}
 use Rattle.sets.proofs.Quantifiers.{every-list}
 use Rattle.sets.proofs.Lists.{all-append}
 use Rattle.validation.specs.Judgement.{Judgement, meant}
@@ -21,24 +21,24 @@ use Rattle.card.specs.Reading.{Progress, nothingRead, isEmpty, valueQues
 abbrev upTo13 : Question → Bool
 upTo13 q = leb (q .number) 13
 
-value-up-to-13 : (j : Judgement) (p : Progress) (t : Tag) (v : List ℕ) → all upTo13 (valueQuestions j p t v) ≡ true
-unfolding all directiveQuestions
+value-up-to-13 : (j : Judgement) (p : Progress) (t : Tag) (v : List ℕ) → allIn upTo13 (valueQuestions j p t v) ≡ true
+unfolding allIn directiveQuestions
 value-up-to-13 j p head v = refl
 value-up-to-13 j p roles v = refl
 value-up-to-13 j p item v = refl
 value-up-to-13 j p directive v = refl
 value-up-to-13 j p other v = refl
 
-field-up-to-13 : (j : Judgement) (p : Progress) (s : List ℕ) → all upTo13 (fieldQuestions j p s) ≡ true
-unfolding all fieldQuestions
+field-up-to-13 : (j : Judgement) (p : Progress) (s : List ℕ) → allIn upTo13 (fieldQuestions j p s) ≡ true
+unfolding allIn fieldQuestions
 field-up-to-13 j p s = value-up-to-13 j p (fieldTag s) (fieldValue s)
 
-pub questions-up-to-13 : (j : Judgement) (n : ℕ) (p : Progress) (s : List ℕ) → all upTo13 (questionsFrom j n p s) ≡ true
-unfolding all questionsFrom
+pub questions-up-to-13 : (j : Judgement) (n : ℕ) (p : Progress) (s : List ℕ) → allIn upTo13 (questionsFrom j n p s) ≡ true
+unfolding allIn questionsFrom
 questions-up-to-13 j zero p s = refl
 questions-up-to-13 j (suc n) p s =
     let rest = questionsFrom j n (withField p (fieldTag s) (fieldValue s)) (afterField s) in
-    elim (isEmpty s) as (λ b. all upTo13 (pick b (endQuestions p) (fieldQuestions j p s ++ rest)) ≡ true) [
+    elim (isEmpty s) as (λ b. allIn upTo13 (pick b (endQuestions p) (fieldQuestions j p s ++ rest)) ≡ true) [
       | true ↦ refl
       | false ↦
           all-append upTo13 (fieldQuestions j p s) rest

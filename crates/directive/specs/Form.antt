@@ -4,7 +4,7 @@ use mathlib.Core.Bool.{Bool, false, _&&_}
 use mathlib.Core.List.{List, _++_}
 use lib.ListN.{take, drop}
 use lib.Dec.{eqb, leb}
-use Rattle.sets.specs.Quantifiers.{pick, one}
+use Rattle.sets.specs.Quantifiers.{pick, oneIf}
 use Rattle.sets.specs.Bits.{subset, nonEmpty, inBits, nonEmptySet}
 use Rattle.sets.specs.Numbers.{numberAt, bytes}
 use Rattle.register.specs.Records.{lastReach}
@@ -94,7 +94,7 @@ numberOf (Role n) = n
 unfoldable pub directiveBytes : Directive → List ℕ
 directiveBytes d =
     bytes 2 (d .number)
-    ++ bytes 1 (one (d .permit))
+    ++ bytes 1 (oneIf (d .permit))
     ++ bytes 1 (kindOf (d .subject))
     ++ bytes 2 (numberOf (d .subject))
     ++ bytes 2 (d .«subject_origins»)

@@ -1,3 +1,4 @@
 pub mod Selection
 pub mod Matching
 pub mod Form
+pub mod Lowest

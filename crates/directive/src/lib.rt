@@ -2,6 +2,11 @@
 ghost use mathlib.Core.Path.{_≡_};
 ghost use Rattle.directive.specs.Form.{noDirective};
 
+pub mod form;
+pub mod lowest;
+pub mod matching;
+pub mod selection;
+
 // One person, or one role with all roles that it covers.
 pub enum Subject {
     Person(u16),

@@ -4,7 +4,7 @@ use mathlib.Core.Path.{_≡_, refl, sym, _∙_}
 use mathlib.Core.Bool.{Bool, true, false}
 use mathlib.Core.Logic.{⊎-elim}
 use mathlib.Core.List.{List, [], _∷_, map, List·Memᴰ, List·Memᴰ·head, List·Memᴰ·tail, List·Memᴰ·cases-cons}
-use Rattle.sets.specs.Quantifiers.{pick, some, keep}
+use Rattle.sets.specs.Quantifiers.{pick, someIn, keep}
 use Rattle.sets.proofs.Quantifiers.{same-test, either-way, some-list}
 use Rattle.register.specs.Register.{Contents}
 use Rattle.directive.specs.declared.Directive.{Directive}
@@ -15,7 +15,8 @@ use Rattle.validation.specs.Requests.{persons, InRange}
 use Rattle.ledger.specs.declared.Ledger.{Ledger}
 use Rattle.ledger.specs.declared.answer.DecideAnswer.{DecideAnswer}
 use Rattle.ledger.specs.Model.{Model, view}
-use Rattle.ledger.specs.Decision.{lowest, matching, isPatient, isAuthor, decision}
+use Rattle.directive.specs.Lowest.{lowest}
+use Rattle.ledger.specs.Decision.{matching, isPatient, isAuthor, decision}
 use Rattle.ledger.specs.Xacml.{Result, Permit, Deny, NotApplicable, isPermit, isDeny, denyOverrides, permitOverrides, resultOf, results, directivesSay, effectOf}
 use Rattle.ledger.specs.Questions.{passes, decideQuestions}
 use Rattle.ledger.specs.Sound.{SoundModel, Sound}
@@ -40,9 +41,9 @@ module _ {A : Type 0} (p : A → Bool) where
       (either-way (p x))
 
   -- where the test says the same of all
-  some-same : (l : List A) (x : A) → List·Memᴰ x l → ((a : A) → List·Memᴰ a l → p a ≡ p x) → some p l ≡ p x
+  some-same : (l : List A) (x : A) → List·Memᴰ x l → ((a : A) → List·Memᴰ a l → p a ≡ p x) → someIn p l ≡ p x
   some-same l x i f =
-      same-test (some p l) (p x)
+      same-test (someIn p l) (p x)
       (λ t. let (a, j, e) = some-list l .read p t in sym (f a j) ∙ e)
       (some-list l .make p x i)
 
@@ -66,8 +67,8 @@ effect d = pick (d .permit) Permit Deny
 module _ (f : Result → Bool) (silent : f NotApplicable ≡ false) where
   some-results :
       (c : Contents) (q : Request) (ds : List Directive) →
-      some f (map (resultOf c q) ds) ≡ some (λ d. f (effect d)) (keep (λ d. matches c d q) ds)
-  unfolding some keep effect
+      someIn f (map (resultOf c q) ds) ≡ someIn (λ d. f (effect d)) (keep (λ d. matches c d q) ds)
+  unfolding someIn keep effect
   some-results c q [] = refl
   some-results c q (d ∷ ds) =
       ⊎-elim
@@ -77,8 +78,8 @@ module _ (f : Result → Bool) (silent : f NotApplicable ≡ false) where
 
   some-said :
       (ds : List Directive) → ((d e : Directive) → List·Memᴰ d ds → List·Memᴰ e ds → d .permit ≡ e .permit) →
-      some (λ d. f (effect d)) ds ≡ f (directivesSay ds)
-  unfolding some effect
+      someIn (λ d. f (effect d)) ds ≡ f (directivesSay ds)
+  unfolding someIn effect
   some-said [] g = sym silent
   some-said (d ∷ ds) g =
       let least = lowest-is d ds .among in
@@ -100,7 +101,7 @@ module _
     (passed : passes (decideQuestions m q) ≡ true)
   where
     results-say :
-        (f : Result → Bool) → f NotApplicable ≡ false → some f (results m q) ≡ f (directivesSay (matching m q))
+        (f : Result → Bool) → f NotApplicable ≡ false → someIn f (results m q) ≡ f (directivesSay (matching m q))
     results-say f silent =
         let now = requestAt q (m .clock) in
         let read = keep-read (λ d. matches (m .register) d now) (m .active) in

@@ -15,7 +15,7 @@ use Rattle.ledger.specs.Questions.{passes, decideQuestions}
 use Rattle.ledger.specs.Calls.{decided}
 use Rattle.ledger.specs.Sound.{Sound}
 use Rattle.ledger.specs.Promises.{Decides}
-use Rattle.gateway.proofs.Passing.{first-passed}
+use Rattle.ledger.proofs.Questions.{first-passed}
 
 module _
     (l : Ledger) (h : Sound l) (q : Query) (a : DecideAnswer) (decides : Decides l q a)

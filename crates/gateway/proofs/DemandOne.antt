@@ -9,9 +9,10 @@ use Rattle.ledger.specs.Answer.{Answer, done, refused, accepted}
 use Rattle.ledger.specs.Questions.{Question, firstNo, passes, outcome}
 use Rattle.ledger.specs.Calls.{committedBy, revoked, advanced, issued, decided, briefed}
 use Rattle.ledger.specs.Promises.{Gives}
+use Rattle.ledger.proofs.Questions.{first-passed}
 use Rattle.card.specs.Writing.{writing, buffered}
 use Rattle.gateway.specs.Demands.{FirstMissed, Answered, Succeeds, Demand1}
-use Rattle.gateway.proofs.Passing.{first-passed, first-missed, missed-fails}
+use Rattle.gateway.proofs.Passing.{first-missed, missed-fails}
 use Rattle.gateway.proofs.Runs.{meant-sound}
 
 -- the answer is the one after the questions or their first "no", and a refusal hands back what was handed in

@@ -8,7 +8,7 @@ use mathlib.Core.List.{List, []}
 use borrow.Author.Tests.{not-true}
 use lib.Dec.{eqb}
 use lib.ListN.{drop}
-use Rattle.sets.specs.Quantifiers.{pick, implies, some}
+use Rattle.sets.specs.Quantifiers.{pick, implies, someIn}
 use Rattle.sets.proofs.Quantifiers.{same-test, either-way, both-ways, and-both, implies-of, implies-at, some-list}
 use Rattle.directive.specs.declared.Directive.{Directive}
 use Rattle.directive.specs.Matching.{matches}
@@ -22,19 +22,18 @@ use Rattle.ledger.specs.declared.Ledger.{Ledger}
 use Rattle.ledger.specs.declared.answer.CommitResult.{CommitResult}
 use Rattle.ledger.specs.Model.{Model, view}
 use Rattle.ledger.specs.Answer.{Answer, done, refused, refusal, commitAnswer}
-use Rattle.ledger.specs.Decision.{lowestNumber}
+use Rattle.directive.specs.Lowest.{lowestNumber}
 use Rattle.ledger.specs.Questions.{firstNo, passes, before, conflicting, directiveQuestions, draftQuestions}
 use Rattle.ledger.specs.Calls.{drafted, committedBy, committed}
 use Rattle.ledger.specs.Sound.{Sound}
 use Rattle.ledger.specs.Promises.{Commits}
-use Rattle.ledger.proofs.Questions.{first-append}
+use Rattle.ledger.proofs.Questions.{first-append, first-passed}
 use Rattle.gateway.specs.Demands.{opposed, matchedByActive, refusedWith, Exact}
-use Rattle.gateway.proofs.Passing.{first-passed}
 
 module _ (m : Model) (d : Directive) where
   -- one of the active conflicts with d
   abbrev clashes : Bool
-  clashes = some (λ e. conflict (m .register) (m .clock) d e) (m .active)
+  clashes = someIn (λ e. conflict (m .register) (m .clock) d e) (m .active)
 
   -- d is redundant beside the active
   abbrev repeats : Bool

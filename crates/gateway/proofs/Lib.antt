@@ -6,5 +6,6 @@ pub mod Ordering
 pub mod Decisions
 pub mod Combining
 pub mod Exactness
+pub mod Cards
 pub mod DemandTwo
 pub mod DemandThree

@@ -6,7 +6,7 @@ use mathlib.Core.Bool.{true}
 use mathlib.Core.List.{List, [], _∷_, map}
 use borrow.Author.Tests.{lt-ltb}
 use lib.ListN.{take}
-use Rattle.sets.specs.Quantifiers.{all}
+use Rattle.sets.specs.Quantifiers.{allIn}
 use Rattle.sets.specs.Bits.{inBits}
 use Rattle.sets.specs.Numbers.{isBytes}
 use Rattle.directive.specs.declared.Query.{Query}
@@ -26,15 +26,15 @@ use Rattle.gateway.proofs.Runs.{run-sound, run-model}
 
 -- what is committed is bytes, and a minute is of 32 bits
 committed-bytes :
-    {l m : Ledger} {rs : List Answer} (ss : List (List ℕ)) → Run l (map commit ss) rs m → all isBytes ss ≡ true
-unfolding all
+    {l m : Ledger} {rs : List Answer} (ss : List (List ℕ)) → Run l (map commit ss) rs m → allIn isBytes ss ≡ true
+unfolding allIn
 committed-bytes [] run = refl
 committed-bytes (s ∷ ss) (more (committing _ r e f) rest) = rw (e, committed-bytes ss rest)
 
 advanced-small :
     {l m : Ledger} {rs : List Answer} (minutes : List ℕ) → Run l (map advance minutes) rs m →
-    all (inBits 32) minutes ≡ true
-unfolding all
+    allIn (inBits 32) minutes ≡ true
+unfolding allIn
 advanced-small [] run = refl
 advanced-small (t ∷ ts) (more (advancing _ r e f) rest) = rw (lt-ltb t (2 ^ 32) e, advanced-small ts rest)
 
@@ -57,8 +57,8 @@ pub order-kept :
     Run l (map commit ts) rs₂ l₂ → Run l₂ (map advance minutes) xs₂ m₂ →
     (q : Query) (a b : DecideAnswer) → q .person < persons → Decides m₁ q a → Decides m₂ q b →
     effectAndBasis a ≡ effectAndBasis b
-order-kept l h ss ts minutes beside other l₁ m₁ l₂ m₂ rs₁ xs₁ rs₂ xs₂ one then two later q a b person by-a by-b =
-    told-after h one then q a by-a
-    ∙ order-model (view l) (h .model) ss ts (committed-bytes ss one) beside other minutes (advanced-small minutes then) q
+order-kept l h ss ts minutes beside other l₁ m₁ l₂ m₂ rs₁ xs₁ rs₂ xs₂ oneIf then two later q a b person by-a by-b =
+    told-after h oneIf then q a by-a
+    ∙ order-model (view l) (h .model) ss ts (committed-bytes ss oneIf) beside other minutes (advanced-small minutes then) q
     person
     ∙ sym (told-after h two later q b by-b)

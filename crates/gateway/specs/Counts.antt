@@ -3,7 +3,7 @@
 use Prim.Native.Nat.{ℕ, _+_}
 use mathlib.Core.List.{List, [], _∷_}
 use lib.ListN.{getD}
-use Rattle.sets.specs.Quantifiers.{one}
+use Rattle.sets.specs.Quantifiers.{oneIf}
 use Rattle.ledger.specs.Answer.{Answer, accepted, values}
 use Rattle.ledger.specs.Calls.{Call, commit, revoke, advance, issue}
 
@@ -14,14 +14,14 @@ total f (c ∷ cs) [] = 0
 total f (c ∷ cs) (a ∷ rs) = f c a + total f cs rs
 
 abbrev pub acceptedOne : Call → Answer → ℕ
-acceptedOne (commit s) a = one (accepted a)
+acceptedOne (commit s) a = oneIf (accepted a)
 acceptedOne (revoke n) a = 0
 acceptedOne (advance t) a = 0
 acceptedOne (issue n p states minutes) a = 0
 
 abbrev pub revokedOne : Call → Answer → ℕ
 revokedOne (commit s) a = 0
-revokedOne (revoke n) a = one (accepted a)
+revokedOne (revoke n) a = oneIf (accepted a)
 revokedOne (advance t) a = 0
 revokedOne (issue n p states minutes) a = 0
 

@@ -6,7 +6,7 @@ use mathlib.Core.Bool.{Bool, true, false, _&&_, not}
 use mathlib.Core.List.{List, [], _∷_, _++_, map, List·Memᴰ}
 use lib.ListN.{length, take, drop}
 use lib.Dec.{eqb}
-use Rattle.sets.specs.Quantifiers.{implies, one, some}
+use Rattle.sets.specs.Quantifiers.{implies, oneIf, someIn}
 use Rattle.sets.specs.Numbers.{isBytes}
 use Rattle.directive.specs.declared.Directive.{Directive}
 use Rattle.directive.specs.declared.Request.{Request}
@@ -108,7 +108,7 @@ abbrev pub effectAndBasis : DecideAnswer → List ℕ
 effectAndBasis a = take 2 (values (decideAnswer a))
 
 abbrev pub effectValues : Effect → List ℕ
-effectValues e = one (e .permit) ∷ e .basis ∷ []
+effectValues e = oneIf (e .permit) ∷ e .basis ∷ []
 
 -- DEMAND 2. "Decisions, briefs and cards are those of document 01, after the two consent papers it names."
 pub record Demand2 : Type 0 where
@@ -148,11 +148,11 @@ pub record Demand2 : Type 0 where
 
 -- one of the active, of the effect opposite to d's, matches the request
 abbrev pub opposed : Model → Directive → Request → Bool
-opposed m d q = some (λ e. not (sameEffect d e) && matches (m .register) e q) (m .active)
+opposed m d q = someIn (λ e. not (sameEffect d e) && matches (m .register) e q) (m .active)
 
 -- one of the active matches the request
 abbrev pub matchedByActive : Model → Request → Bool
-matchedByActive m q = some (λ e. matches (m .register) e q) (m .active)
+matchedByActive m q = someIn (λ e. matches (m .register) e q) (m .active)
 
 -- the number that a commit is refused with, 0 for none
 abbrev pub refusedWith : CommitResult → ℕ

@@ -6,7 +6,7 @@ use mathlib.Core.List.{List, List·Memᴰ}
 use native.Mathlib.Omega.{arith}
 use borrow.Author.Tests.{ltb-true}
 use lib.ListN.{length, take, drop}
-use Rattle.sets.specs.Quantifiers.{all}
+use Rattle.sets.specs.Quantifiers.{allIn}
 use Rattle.sets.specs.Bits.{inBits}
 use Rattle.sets.specs.Numbers.{isBytes}
 use Rattle.sets.proofs.Quantifiers.{and-left, and-right, every-list}
@@ -65,7 +65,7 @@ draft-fit c s narrow e =
 in-register :
     (m : Model) (s : Draft) → passes (take 5 (directiveQuestions meant m s)) ≡ true →
     inRegister (m .register) (directiveOf s) ≡ true
-unfolding directiveQuestions all
+unfolding directiveQuestions allIn
 in-register m s e = search (and-left, and-right)
 
 -- Where 7 to 11 are passed, the search is exact in 12 and 13; elsewhere both refuse alike.
@@ -122,7 +122,7 @@ stands-fit m e h =
 
 pub searchable-of :
     (m : Model) → (0 < length (m .register .records) → 0 < length (m .register .roles)) →
-    all (stands m) (m .active) ≡ true → length (m .active) < persons → Searchable m
+    allIn (stands m) (m .active) ≡ true → length (m .active) < persons → Searchable m
 searchable-of m a-role stand few =
     record {
       a-role = a-role;

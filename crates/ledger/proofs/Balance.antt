@@ -8,7 +8,7 @@ use native.Mathlib.Omega.{arith}
 use borrow.Author.Tests.{eqb-true, eq-eqb}
 use lib.ListN.{length, length-append, getD}
 use lib.Dec.{eqb, leb}
-use Rattle.sets.specs.Quantifiers.{one, all}
+use Rattle.sets.specs.Quantifiers.{oneIf, allIn}
 use Rattle.sets.proofs.Quantifiers.{and-left}
 use Rattle.sets.proofs.Keep.{count-keep, count-once}
 use Rattle.directive.specs.declared.Directive.{Directive}
@@ -22,10 +22,10 @@ use Rattle.ledger.proofs.Questions.{outcome-by}
 module _ (m : Model) where
   pub commit-active :
       (s : List ℕ) →
-      length (committed m s .model .active) ≡ length (m .active) + one (accepted (committed m s .answer))
+      length (committed m s .model .active) ≡ length (m .active) + oneIf (accepted (committed m s .answer))
   unfolding committedBy
   commit-active s =
-      outcome-by (λ o. length (o .model .active) ≡ length (m .active) + one (accepted (o .answer))) _ m _
+      outcome-by (λ o. length (o .model .active) ≡ length (m .active) + oneIf (accepted (o .answer))) _ m _
       (λ _. length-append (m .active) _)
       (λ _ _. omega arith)
 
@@ -41,15 +41,15 @@ module _ (m : Model) where
       let also = eqb-true (e .number) n j in
       ap not (eq-eqb (d .number) (e .number) (omega arith))
       in
-      let once = count-once named apart alike (m .active) (h .active-differ) ∙ ap one e in
+      let once = count-once named apart alike (m .active) (h .active-differ) ∙ ap oneIf e in
       omega (arith, count-keep named (m .active))
 
   pub revoke-active :
       SoundModel m → (n : ℕ) →
-      length (revoked m n .model .active) + one (accepted (revoked m n .answer)) ≡ length (m .active)
-  unfolding revoked all
+      length (revoked m n .model .active) + oneIf (accepted (revoked m n .answer)) ≡ length (m .active)
+  unfolding revoked allIn
   revoke-active h n =
-      outcome-by (λ o. length (o .model .active) + one (accepted (o .answer)) ≡ length (m .active))
+      outcome-by (λ o. length (o .model .active) + oneIf (accepted (o .answer)) ≡ length (m .active))
       (revokeQuestions m n) m _
       (λ passed. one-fewer h n (and-left _ _ passed))
       (λ _ _. omega arith)

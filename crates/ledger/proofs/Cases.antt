@@ -5,7 +5,7 @@ use mathlib.Core.List.{List, [], _∷_, map, List·Memᴰ}
 use borrow.Author.Tests.{ltb-true, lt-ltb, eqb-true}
 use lib.ListN.{length}
 use lib.Dec.{eqb, ltb}
-use Rattle.sets.specs.Quantifiers.{implies, allBelow, someBelow, countBelow, allOf, someOf, all, some, keep, count}
+use Rattle.sets.specs.Quantifiers.{implies, allBelow, someBelow, countBelow, allOf, someOf, allIn, someIn, keep, count}
 use Rattle.sets.specs.Bits.{setOf}
 use Rattle.sets.specs.Numbers.{numberFrom, bytes, isBytes}
 use Rattle.sets.proofs.Quantifiers.{both-ways, and-both, and-left, and-right, implies-at, every-list}
@@ -21,7 +21,8 @@ use Rattle.validation.specs.Judgement.{meant}
 use Rattle.validation.specs.Found.{found}
 use Rattle.ledger.specs.Model.{Model}
 use Rattle.ledger.specs.Emergency.{scope, disclosed, briefWord, briefCount}
-use Rattle.ledger.specs.Decision.{lowest, decision}
+use Rattle.directive.specs.Lowest.{lowest}
+use Rattle.ledger.specs.Decision.{decision}
 use Rattle.ledger.specs.Questions.{firstNo, directiveQuestions, draftQuestions}
 use Rattle.ledger.specs.Calls.{committedBy, advanced, issued, decided, briefed, drafted, commit, revoke, advance, issue}
 use Rattle.ledger.specs.Sound.{stands}
@@ -32,7 +33,7 @@ use Rattle.ledger.proofs.Agree.{Searchable, searchable-of, committed-ag
 searchable : Model → Bool
 searchable m =
     implies (ltb 0 (length (m .register .records))) (ltb 0 (length (m .register .roles)))
-    && all (stands m) (m .active)
+    && allIn (stands m) (m .active)
     && ltb (length (m .active)) persons
 
 searchable-read : (m : Model) → searchable m ≡ true → Searchable m
@@ -114,9 +115,9 @@ unfolding checks
 holds (run ss) e = runs-read sample ss e
 holds (selection s xs) e = same-list Bool·beq beq-true _ xs e
 
-all-check : all checks cases ≡ true
+all-check : allIn checks cases ≡ true
 unfolding checks runs sameList written searchable cases sample sampleRecords drafting
-    allBelow someBelow countBelow allOf someOf all some keep count setOf numberFrom bytes
+    allBelow someBelow countBelow allOf someOf allIn someIn keep count setOf numberFrom bytes
     aboveBy covers reaches passesFilters selects matches draftOf directiveOf directiveBytes keepsRanges wellFormed
     overlap conflictFound breaksBaselineFound admits redundantFound
     scope disclosed briefWord briefCount lowest decision firstNo directiveQuestions draftQuestions

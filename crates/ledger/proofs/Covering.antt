@@ -8,7 +8,7 @@ use native.Mathlib.Omega.{arith}
 use borrow.Author.Tests.{not-true, leb-true, le-leb, lt-ltb}
 use lib.ListN.{length, length-append}
 use lib.Dec.{eqb}
-use Rattle.sets.specs.Quantifiers.{all, some, pairwise}
+use Rattle.sets.specs.Quantifiers.{allIn, someIn, pairwise}
 use Rattle.sets.specs.Numbers.{isBytes}
 use Rattle.sets.proofs.Quantifiers.{either-way, both-ways, and-both, and-left, and-right, every-list, some-list}
 use Rattle.sets.proofs.Keep.{keep-shorter}
@@ -37,11 +37,11 @@ speaks c b q d = Bool·beq b (d .permit) && matches c d q
 
 -- one of the active, of the effect b, matches the request
 abbrev pub coveredBy : Model → Bool → Request → Bool
-coveredBy m b q = some (speaks (m .register) b q) (m .active)
+coveredBy m b q = someIn (speaks (m .register) b q) (m .active)
 
 -- one of the drafts does
 abbrev pub coveredByDrafts : Model → List (List ℕ) → Bool → Request → Bool
-coveredByDrafts m ss b q = some (λ s. speaks (m .register) b q (drafted s)) ss
+coveredByDrafts m ss b q = someIn (λ s. speaks (m .register) b q (drafted s)) ss
 
 or-absorbs : (a b : Bool) → (b ≡ true → a ≡ true) → a || b ≡ a
 or-absorbs true b f = refl
@@ -77,7 +77,7 @@ still-passes :
     suc (length (m .active)) < activePlaces → eqb (d .number) (drafted t .number) ≡ false →
     conflict (m .register) (m .clock) (drafted t) d ≡ false →
     passes (before 14 (draftQuestions meant (withActive m (m .active ++ (d ∷ []))) t)) ≡ true
-unfolding before draftQuestions directiveQuestions all
+unfolding before draftQuestions directiveQuestions allIn
 still-passes m d t e room apart clear =
     let size : eqb (length t) draftSize ≡ true = search and-left in
     let ranges : keepsRanges (draftOf t) ≡ true = search (and-left, and-right) in
@@ -87,7 +87,7 @@ still-passes m d t e room apart clear =
     let breaks = breaksBaseline (m .register) (m .patient) (m .clock) (drafted t) in
     let free = not-true (isActive (drafted t .number) (m .active)) (search (and-left, and-right)) in
     let spared = not-true breaks (search (and-left, and-right) depth 9) in
-    let others = not-true (some clash (m .active)) (search (and-left, and-right) depth 9) in
+    let others = not-true (someIn clash (m .active)) (search (and-left, and-right) depth 9) in
     rw (
       size,
       ranges,
@@ -109,7 +109,7 @@ last-question :
     (m : Model) (s : List ℕ) → passes (before 14 (draftQuestions meant m s)) ≡ true →
     (passes (directiveQuestions meant m (draftOf s)) ≡ true)
     × (passes (draftQuestions meant m s) ≡ not (redundant (m .register) (m .clock) (drafted s) (m .active)))
-unfolding before draftQuestions directiveQuestions all
+unfolding before draftQuestions directiveQuestions allIn
 last-question m s e =
     let fresh = not (redundant (m .register) (m .clock) (drafted s) (m .active)) in (
       and-right (eqb (length s) draftSize) _ e,
@@ -124,7 +124,7 @@ pub record Added (m : Model) (ss : List (List ℕ)) (n : Model) : Type 0 where
   pub sound : SoundModel (withActive m directives)
   pub coverage :
       (b : Bool) (q : Request) → InRange (m .register) (m .clock) q →
-      some (speaks (m .register) b q) directives ≡ coveredBy m b q || coveredByDrafts m ss b q
+      someIn (speaks (m .register) b q) directives ≡ coveredBy m b q || coveredByDrafts m ss b q
 
 -- The first of compatible drafts, and those after it.
 module _ (m : Model) (s : List ℕ) (ss : List (List ℕ)) (beside : compatible m (s ∷ ss) ≡ true) where
@@ -133,11 +133,11 @@ module _ (m : Model) (s : List ℕ) (ss : List (List ℕ)) (beside : compatible 
   places = leb-true _ activePlaces (search and-right)
 
   first-passes : passes (before 14 (draftQuestions meant m s)) ≡ true
-  unfolding compatible all
+  unfolding compatible allIn
   first-passes = search (and-left, and-right)
 
   others-pass : (t : List ℕ) → List·Memᴰ t ss → passes (before 14 (draftQuestions meant m t)) ≡ true
-  unfolding compatible all
+  unfolding compatible allIn
   others-pass = every-list ss .read _ (search (and-left, and-right))
 
   -- the others pass with the first among the active
@@ -145,8 +145,8 @@ module _ (m : Model) (s : List ℕ) (ss : List (List ℕ)) (beside : compatible 
       (t : List ℕ) → List·Memᴰ t ss → passes (before 14 (draftQuestions meant (afterCommit m s) t)) ≡ true
   unfolding compatible pairwise
   others-pass-first t i =
-      let differ : all (λ t. not (eqb (drafted s .number) (drafted t .number))) ss ≡ true = search (and-left, and-right) in
-      let clear : all (λ t. not (conflict (m .register) (m .clock) (drafted s) (drafted t))) ss ≡ true =
+      let differ : allIn (λ t. not (eqb (drafted s .number) (drafted t .number))) ss ≡ true = search (and-left, and-right) in
+      let clear : allIn (λ t. not (conflict (m .register) (m .clock) (drafted s) (drafted t))) ss ≡ true =
       search (and-left, and-right)
       in
       still-passes m (drafted s) t (others-pass t i)
@@ -178,7 +178,7 @@ module _ (m : Model) (s : List ℕ) (ss : List (List ℕ)) (beside : compatible 
   first-added :
       SoundModel m → isBytes s ≡ true →
       (added : Added m (s ∷ []) (committed m s .model)) × (compatible (withActive m (added .directives)) ss ≡ true)
-  unfolding committedBy some
+  unfolding committedBy someIn
   first-added h e =
       let d = drafted s in
       let repeated = redundant (m .register) (m .clock) d (m .active) in
@@ -208,21 +208,21 @@ module _ (m : Model) (s : List ℕ) (ss : List (List ℕ)) (beside : compatible 
       (either-way repeated)
 
 pub drafts-added :
-    (m : Model) → SoundModel m → (ss : List (List ℕ)) → all isBytes ss ≡ true → compatible m ss ≡ true →
+    (m : Model) → SoundModel m → (ss : List (List ℕ)) → allIn isBytes ss ≡ true → compatible m ss ≡ true →
     Added m ss (modelAfter m (map commit ss))
-unfolding all some modelAfter
+unfolding allIn someIn modelAfter
 drafts-added m h [] e beside =
     record { directives = m .active; leads = refl; sound = h; coverage = λ b q i. sym (or-false (coveredBy m b q)) }
 drafts-added m h (s ∷ ss) e beside =
     let (bytes, others) = and-both (isBytes s) _ e in
-    let (one, left) = first-added m s ss beside h bytes in
-    let rest = drafts-added (withActive m (one .directives)) (one .sound) ss others left in
+    let (oneIf, left) = first-added m s ss beside h bytes in
+    let rest = drafts-added (withActive m (oneIf .directives)) (oneIf .sound) ss others left in
     record {
       directives = rest .directives;
-      leads = ap (λ n. modelAfter n (map commit ss)) (one .leads) ∙ rest .leads;
+      leads = ap (λ n. modelAfter n (map commit ss)) (oneIf .leads) ∙ rest .leads;
       sound = rest .sound;
       coverage = λ b q i.
           let first = speaks (m .register) b q (drafted s) in
           rest .coverage b q i
-          ∙ rw (one .coverage b q i, or-false first, or-assoc (coveredBy m b q) first (coveredByDrafts m ss b q));
+          ∙ rw (oneIf .coverage b q i, or-false first, or-assoc (coveredBy m b q) first (coveredByDrafts m ss b q));
     }

@@ -9,4 +9,8 @@ pub mod Covering
 pub mod Clash
 pub mod Saying
 pub mod Order
+pub mod CallLaws
+pub mod WalkLaws
+pub mod BriefLaws
+pub mod EnrolLaws
 pub mod Cases

@@ -9,7 +9,7 @@ use borrow.Author.Tests.{ltb-true, ltb-false}
 use lib.Dec.{ltb}
 use Rattle.sets.specs.Quantifiers.{pick}
 use Rattle.directive.specs.declared.Directive.{Directive}
-use Rattle.ledger.specs.Decision.{lowest, lowestNumber}
+use Rattle.directive.specs.Lowest.{lowest, lowestNumber}
 
 -- d is one of the list, and none has a lower number
 pub record Lowest (ds : List Directive) (d : Directive) : Type 0 where

@@ -9,7 +9,7 @@ use native.Mathlib.Omega.{arith}
 use borrow.Author.Tests.{ltb-true, leb-true, lt-leb}
 use lib.ListN.{take}
 use lib.Dec.{leb}
-use Rattle.sets.specs.Quantifiers.{pick, one, all}
+use Rattle.sets.specs.Quantifiers.{pick, oneIf, allIn}
 use Rattle.sets.specs.Bits.{inBits}
 use Rattle.sets.specs.Numbers.{isBytes}
 use Rattle.sets.proofs.Quantifiers.{either-way, and-both, and-right}
@@ -56,7 +56,7 @@ same-decided m ds same q person =
     (λ (reader : isAuthor m q ≡ false).
     rw (stranger, reader)
     (said-effect m q (matching m q)
-    ∙ ap (λ r. one (effectOf m q r .permit) ∷ effectOf m q r .basis ∷ [])
+    ∙ ap (λ r. oneIf (effectOf m q r .permit) ∷ effectOf m q r .basis ∷ [])
     (said-by-covered m (same .sound) q i
     ∙ ap₂ says (same .covers true (now m q) i) (same .covers false (now m q) i)
     ∙ sym (said-by-covered (withActive m ds) (same .sound-other) q i))
@@ -77,7 +77,7 @@ advance-covers m t b q i =
 
 advanced-is :
     (m : Model) (t : ℕ) (b : Bool) → leb (m .clock) t ≡ b → advanced m t .model ≡ pick b (afterAdvance m t) m
-unfolding advanced all
+unfolding advanced allIn
 advanced-is m t b e = rw (e, and-true b)
 
 same-advanced :
@@ -95,11 +95,11 @@ same-advanced m ds t small e same =
     }
 
 same-after :
-    (minutes : List ℕ) → all (inBits 32) minutes ≡ true → (m : Model) (ds : List Directive) → SameCover m ds →
+    (minutes : List ℕ) → allIn (inBits 32) minutes ≡ true → (m : Model) (ds : List Directive) → SameCover m ds →
     (q : Query) → q .person < persons →
     take 2 (values (decided (modelAfter m (map advance minutes)) q))
     ≡ take 2 (values (decided (modelAfter (withActive m ds) (map advance minutes)) q))
-unfolding all modelAfter
+unfolding allIn modelAfter
 same-after [] small m ds same q person = same-decided m ds same q person
 same-after (t ∷ ts) small m ds same q person =
     let (small-t, small-ts) = and-both (inBits 32 t) _ small in
@@ -118,23 +118,23 @@ same-after (t ∷ ts) small m ds same q person =
     (either-way (leb (m .clock) t))
 
 pub order-model :
-    (m : Model) → SoundModel m → (ss ts : List (List ℕ)) → all isBytes ss ≡ true → compatible m ss ≡ true →
-    Reordered ss ts → (minutes : List ℕ) → all (inBits 32) minutes ≡ true → (q : Query) → q .person < persons →
+    (m : Model) → SoundModel m → (ss ts : List (List ℕ)) → allIn isBytes ss ≡ true → compatible m ss ≡ true →
+    Reordered ss ts → (minutes : List ℕ) → allIn (inBits 32) minutes ≡ true → (q : Query) → q .person < persons →
     take 2 (values (decided (modelAfter (modelAfter m (map commit ss)) (map advance minutes)) q))
     ≡ take 2 (values (decided (modelAfter (modelAfter m (map commit ts)) (map advance minutes)) q))
 order-model m h ss ts e beside other minutes small q person =
-    let one = drafts-added m h ss e beside in
+    let oneIf = drafts-added m h ss e beside in
     let two =
     drafts-added m h ts (sym (all-reordered isBytes other) ∙ e) (sym (compatible-reordered m other) ∙ beside)
     in
     let after : Model → List ℕ = λ n. take 2 (values (decided (modelAfter n (map advance minutes)) q)) in
-    ap after (one .leads)
-    ∙ same-after minutes small (withActive m (one .directives)) (two .directives)
+    ap after (oneIf .leads)
+    ∙ same-after minutes small (withActive m (oneIf .directives)) (two .directives)
     (record {
-      sound = one .sound;
+      sound = oneIf .sound;
       sound-other = two .sound;
       covers = λ b r i.
-          one .coverage b r i ∙ ap (coveredBy m b r ||_) (some-reordered _ other) ∙ sym (two .coverage b r i);
+          oneIf .coverage b r i ∙ ap (coveredBy m b r ||_) (some-reordered _ other) ∙ sym (two .coverage b r i);
     })
     q person
     ∙ ap after (sym (two .leads))

@@ -4,8 +4,8 @@ use mathlib.Core.Path.{_≡_, refl, sym, ap, _∙_}
 use mathlib.Core.Bool.{Bool, true, false, _&&_}
 use mathlib.Core.Logic.{_⊎_, inl, inr, ⊎-elim}
 use mathlib.Core.List.{List, [], _∷_, _++_, List·Memᴰ, List·Memᴰ·head, List·Memᴰ·tail}
-use Rattle.sets.specs.Quantifiers.{pick, all}
-use Rattle.sets.proofs.Quantifiers.{either-way, and-where}
+use Rattle.sets.specs.Quantifiers.{pick, allIn}
+use Rattle.sets.proofs.Quantifiers.{either-way, both-ways, and-both, and-where}
 use Rattle.sets.proofs.Lists.{all-append}
 use Rattle.ledger.specs.Model.{Model}
 use Rattle.ledger.specs.Answer.{Answer, refused}
@@ -27,12 +27,17 @@ module _ {B : Type 0} (f : Answer → B) where
 
   pub told-where :
       (qs : List Question) (a b : Answer) → (passes qs ≡ true → f a ≡ f b) → f (firstNo qs a) ≡ f (firstNo qs b)
-  unfolding firstNo all
+  unfolding firstNo allIn
   told-where [] a b g = g refl
   told-where (q ∷ qs) a b g = pick-where (q .holds) _ _ _ (λ e. told-where qs a b (λ r. g (rw (e, r))))
 
 pub first-where : (qs : List Question) (a b : Answer) → (passes qs ≡ true → a ≡ b) → firstNo qs a ≡ firstNo qs b
 first-where = told-where (λ a. a)
+
+pub first-passed : (qs : List Question) (a : Answer) → passes qs ≡ true → firstNo qs a ≡ a
+unfolding firstNo allIn
+first-passed [] a e = refl
+first-passed (q ∷ qs) a e = let (now, rest) = and-both (q .holds) _ e in rw (now, first-passed qs a rest)
 
 -- the answer is the one after the questions, or a refusal by one of them
 pub first-of :
@@ -56,13 +61,31 @@ pub outcome-by :
     (P : Outcome → Type 0) (qs : List Question) (m : Model) (o : Outcome) →
     (passes qs ≡ true → P o) → ((n : ℕ) (vs : List ℕ) → P (record { answer = refused n vs; model = m })) →
     P (outcome qs m o)
-unfolding firstNo all
+unfolding firstNo allIn
 outcome-by P [] m o f g = f refl
 outcome-by P (q ∷ qs) m o f g =
     ⊎-elim
     (λ (e : q .holds ≡ true). rw e (outcome-by P qs m o (λ r. f (rw (e, r))) g))
     (λ (e : q .holds ≡ false). rw e (g (q .number) (q .adds)))
     (either-way (q .holds))
+
+-- the outcome of questions that are passed, of questions that are not, and of more questions after them
+pub outcome-passed : (qs : List Question) (m : Model) (o : Outcome) → passes qs ≡ true → outcome qs m o ≡ o
+outcome-passed qs m o e = rw (first-passed qs (o .answer) e, e)
+
+pub outcome-missed :
+    (qs : List Question) (m : Model) (o : Outcome) (a : Answer) → passes qs ≡ false →
+    outcome qs m o ≡ record { answer = firstNo qs a; model = m }
+outcome-missed qs m o a e = rw (first-where qs (o .answer) a (λ t. both-ways t e), e)
+
+pub outcome-append :
+    (qs rs : List Question) (m : Model) (o : Outcome) → outcome (qs ++ rs) m o ≡ outcome qs m (outcome rs m o)
+outcome-append qs rs m o =
+    rw (first-append qs rs (o .answer), passes-append qs rs, both (passes qs) (passes rs))
+  where
+    both : (a b : Bool) → pick (a && b) (o .model) m ≡ pick a (pick b (o .model) m) m
+    both true b = refl
+    both false b = refl
 
 -- Whatever comes after them, both lists are answered alike.
 pub record Alike (qs rs : List Question) : Type 0 where

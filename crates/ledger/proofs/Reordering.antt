@@ -7,7 +7,7 @@ use mathlib.Core.List.{List}
 use borrow.Author.Tests.{eqb-true, eq-eqb}
 use lib.ListN.{length}
 use lib.Dec.{eqb}
-use Rattle.sets.specs.Quantifiers.{all, some, pairwise}
+use Rattle.sets.specs.Quantifiers.{allIn, someIn, pairwise}
 use Rattle.sets.proofs.Quantifiers.{same-test}
 use Rattle.sets.proofs.Lists.{and-middle, all-not}
 use Rattle.validation.proofs.ConflictLaws.{conflict-sym}
@@ -22,27 +22,27 @@ module _ {A : Type 0} where
   length-reordered swap = refl
   length-reordered (again h k) = length-reordered h ∙ length-reordered k
 
-  pub all-reordered : (p : A → Bool) {s t : List A} → Reordered s t → all p s ≡ all p t
-  unfolding all
+  pub all-reordered : (p : A → Bool) {s t : List A} → Reordered s t → allIn p s ≡ allIn p t
+  unfolding allIn
   all-reordered p nil = refl
   all-reordered p (first h) = rw (all-reordered p h)
-  all-reordered p (swap {a} {b} {s}) = and-middle true (p a) (p b) (all p s)
+  all-reordered p (swap {a} {b} {s}) = and-middle true (p a) (p b) (allIn p s)
   all-reordered p (again h k) = all-reordered p h ∙ all-reordered p k
 
-  pub some-reordered : (p : A → Bool) {s t : List A} → Reordered s t → some p s ≡ some p t
+  pub some-reordered : (p : A → Bool) {s t : List A} → Reordered s t → someIn p s ≡ someIn p t
   some-reordered p {s} {t} h =
-      sym (Bool·not-not (some p s))
+      sym (Bool·not-not (someIn p s))
       ∙ ap not (sym (all-not p s) ∙ all-reordered (λ a. not (p a)) h ∙ all-not p t)
-      ∙ Bool·not-not (some p t)
+      ∙ Bool·not-not (someIn p t)
 
   -- where the order of the two does not count
   pairwise-reordered :
       (r : A → A → Bool) → ((a b : A) → r a b ≡ r b a) → {s t : List A} → Reordered s t → pairwise r s ≡ pairwise r t
-  unfolding all pairwise
+  unfolding allIn pairwise
   pairwise-reordered r back nil = refl
   pairwise-reordered r back (first {a} h) = rw (all-reordered (r a) h, pairwise-reordered r back h)
   pairwise-reordered r back (swap {a} {b} {s}) =
-      rw (back a b) (and-middle (r b a) (all (r a) s) (all (r b) s) (pairwise r s))
+      rw (back a b) (and-middle (r b a) (allIn (r a) s) (allIn (r b) s) (pairwise r s))
   pairwise-reordered r back (again h k) = pairwise-reordered r back h ∙ pairwise-reordered r back k
 
 eqb-sym : (a b : ℕ) → eqb a b ≡ eqb b a

@@ -7,7 +7,7 @@ use mathlib.Core.List.{List, [], _∷_, List·Memᴰ}
 use native.Mathlib.Omega.{arith}
 use borrow.Author.Tests.{ltb-true}
 use lib.ListN.{length, take}
-use Rattle.sets.specs.Quantifiers.{pick, one, all, some}
+use Rattle.sets.specs.Quantifiers.{pick, oneIf, allIn, someIn}
 use Rattle.sets.proofs.Quantifiers.{either-way, both-ways, never-true, and-left, and-right, every-list, some-list}
 use Rattle.sets.proofs.Keep.{all-keep, some-keep}
 use Rattle.directive.specs.declared.Directive.{Directive}
@@ -16,7 +16,8 @@ use Rattle.directive.specs.declared.Query.{Query}
 use Rattle.directive.specs.Matching.{matches, requestAt}
 use Rattle.validation.specs.Requests.{persons, origins, purposes, InRange}
 use Rattle.ledger.specs.Model.{Model}
-use Rattle.ledger.specs.Decision.{lowest, decisionValues, matching, byDefault, byDirectives}
+use Rattle.directive.specs.Lowest.{lowest}
+use Rattle.ledger.specs.Decision.{decisionValues, matching, byDefault, byDirectives}
 use Rattle.ledger.specs.Xacml.{Result, Permit, Deny, NotApplicable, directivesSay, effectOf}
 use Rattle.ledger.specs.Questions.{passes, decideQuestions}
 use Rattle.ledger.specs.Sound.{SoundModel}
@@ -32,7 +33,7 @@ now m q = requestAt q (m .clock)
 pub in-range-now :
     (m : Model) → SoundModel m → (q : Query) → q .person < persons → passes (decideQuestions m q) ≡ true →
     InRange (m .register) (m .clock) (now m q)
-unfolding all
+unfolding allIn
 in-range-now m h q person asked =
     let role = ltb-true (q .role) (length (m .register .roles)) (search (and-left, and-right)) in
     let there = ltb-true (q .«record») (length (m .register .records)) (search (and-left, and-right)) in
@@ -45,10 +46,10 @@ beq-self true = refl
 beq-self false = refl
 
 module _ (m : Model) (q : Query) where
-  covered-by-matching : (b : Bool) → coveredBy m b (now m q) ≡ some (speaks (m .register) b (now m q)) (matching m q)
+  covered-by-matching : (b : Bool) → coveredBy m b (now m q) ≡ someIn (speaks (m .register) b (now m q)) (matching m q)
   covered-by-matching b = sym (some-keep _ _ (λ d t. and-right (Bool·beq b (d .permit)) _ t) (m .active))
 
-  all-match : all (λ d. matches (m .register) d (now m q)) (matching m q) ≡ true
+  all-match : allIn (λ d. matches (m .register) d (now m q)) (matching m q) ≡ true
   all-match = all-keep _ (λ _. true) _ (λ _ t _. t) (m .active) (every-list (m .active) .make _ (λ _ _. refl))
 
   matching-covers : (d : Directive) → List·Memᴰ d (matching m q) → coveredBy m (d .permit) (now m q) ≡ true
@@ -62,7 +63,7 @@ module _ (m : Model) (q : Query) where
   pub said-effect :
       (ds : List Directive) →
       take 2 (decisionValues (byDirectives ds (byDefault m q)))
-      ≡ one (effectOf m q (directivesSay ds) .permit) ∷ effectOf m q (directivesSay ds) .basis ∷ []
+      ≡ oneIf (effectOf m q (directivesSay ds) .permit) ∷ effectOf m q (directivesSay ds) .basis ∷ []
   said-effect [] = refl
   said-effect (d ∷ ds) =
       ⊎-elim
@@ -85,10 +86,10 @@ module _ (m : Model) (h : SoundModel m) (q : Query) (i : InRange (m .register) (
   said-by :
       (ds : List Directive) → matching m q ≡ ds →
       directivesSay ds ≡ says (coveredBy m true (now m q)) (coveredBy m false (now m q))
-  unfolding some
+  unfolding someIn
   said-by [] e =
       let none : (b : Bool) → coveredBy m b (now m q) ≡ false =
-      λ b. covered-by-matching m q b ∙ ap (some (speaks (m .register) b (now m q))) e
+      λ b. covered-by-matching m q b ∙ ap (someIn (speaks (m .register) b (now m q))) e
       in
       rw (none true, none false)
   said-by (d ∷ ds) e =

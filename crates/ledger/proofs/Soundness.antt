@@ -7,7 +7,7 @@ use native.Mathlib.Omega.{arith}
 use borrow.Author.Tests.{not-true, leb-true, leb-false, ltb-true, lt-ltb}
 use lib.ListN.{length, length-append}
 use lib.Dec.{eqb, leb, ltb}
-use Rattle.sets.specs.Quantifiers.{pick, all, some}
+use Rattle.sets.specs.Quantifiers.{pick, allIn, someIn}
 use Rattle.sets.specs.Bits.{nonEmpty}
 use Rattle.sets.specs.Numbers.{isBytes}
 use Rattle.sets.proofs.Quantifiers.{not-less, and-left, and-right}
@@ -40,7 +40,7 @@ module _ (m : Model) (h : SoundModel m) where
       (d : Directive) → wellFormed d ≡ true → inRegister (m .register) d ≡ true → hasMinutes (m .clock) d ≡ true →
       isActive (d .number) (m .active) ≡ false → length (m .active) < activePlaces →
       breaksBaseline (m .register) (m .patient) (m .clock) d ≡ false →
-      some (λ e. conflict (m .register) (m .clock) d e) (m .active) ≡ false →
+      someIn (λ e. conflict (m .register) (m .clock) d e) (m .active) ≡ false →
       SoundModel (withActive m (m .active ++ (d ∷ [])))
   sound-directive d formed there minutes free room spared clear =
       let clash = conflict (m .register) (m .clock) in
@@ -70,7 +70,7 @@ module _ (m : Model) (h : SoundModel m) where
   pub sound-draft :
       (s : List ℕ) → isBytes s ≡ true → passes (directiveQuestions meant m (draftOf s)) ≡ true →
       SoundModel (afterCommit m s)
-  unfolding all directiveQuestions
+  unfolding allIn directiveQuestions
   sound-draft s e passed =
       sound-directive (drafted s)
       (draft-formed s e (search and-left))
@@ -82,7 +82,7 @@ module _ (m : Model) (h : SoundModel m) where
       (not-true _ (search (and-left, and-right) depth 9))
 
   pub sound-commit : (s : List ℕ) → isBytes s ≡ true → SoundModel (committed m s .model)
-  unfolding committedBy draftQuestions all
+  unfolding committedBy draftQuestions allIn
   sound-commit s e =
       let questions = directiveQuestions meant m (draftOf s) in
       sound-either (draftQuestions meant m s) (afterCommit m s) λ passed.
@@ -109,7 +109,7 @@ module _ (m : Model) (h : SoundModel m) where
       }
 
   pub sound-advance : (t : ℕ) → t < 2 ^ 32 → SoundModel (advanced m t .model)
-  unfolding advanced all
+  unfolding advanced allIn
   sound-advance t small =
       sound-either (advanceQuestions m t) (afterAdvance m t) λ passed.
       let before = leb-true (m .clock) t (and-left _ _ passed) in
@@ -141,7 +141,7 @@ module _ (m : Model) (h : SoundModel m) where
 
   pub sound-issue :
       (n p states minutes : ℕ) → n < 2 ^ 16 → p < 2 ^ 16 → states < 2 ^ 8 → SoundModel (issued m n p states minutes .model)
-  unfolding issued all
+  unfolding issued allIn
   sound-issue n p states minutes wide-n wide-p wide-states =
       sound-either (issueQuestions m n states minutes) (afterIssue m n p states minutes) λ passed.
       let until = m .clock + minutes in
@@ -172,5 +172,5 @@ module _ (m : Model) (h : SoundModel m) where
             ));
         tokens-differ =
             apart-snoc (λ t k. eqb (t .number) (k .number)) (m .tokens) k (h .tokens-differ)
-            (not-true (some (λ t. eqb (t .number) n) (m .tokens)) (search (and-left, and-right)));
+            (not-true (someIn (λ t. eqb (t .number) n) (m .tokens)) (search (and-left, and-right)));
       }

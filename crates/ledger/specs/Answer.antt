@@ -2,7 +2,7 @@
 use Prim.Native.Nat.{ℕ}
 use mathlib.Core.Bool.{Bool, true, false}
 use mathlib.Core.List.{List, [], _∷_}
-use Rattle.sets.specs.Quantifiers.{one}
+use Rattle.sets.specs.Quantifiers.{oneIf}
 use Rattle.ledger.specs.declared.answer.DirectiveRefusal.{DirectiveRefusal}
 use Rattle.ledger.specs.declared.answer.DirectiveRefusal.the-variants as Refusal
 use Rattle.ledger.specs.declared.answer.CommitAnswer.{CommitAnswer}
@@ -78,6 +78,6 @@ briefAnswer BriefCase.NoToken = refused 22 []
 abbrev pub decideAnswer : DecideAnswer → Answer
 decideAnswer Decide.Patient = done (1 ∷ 1 ∷ [])
 decideAnswer Decide.Author = done (1 ∷ 2 ∷ [])
-decideAnswer (Decide.Directive permit number) = done (one permit ∷ 3 ∷ number ∷ [])
-decideAnswer (Decide.Default permit) = done (one permit ∷ 4 ∷ [])
+decideAnswer (Decide.Directive permit number) = done (oneIf permit ∷ 3 ∷ number ∷ [])
+decideAnswer (Decide.Default permit) = done (oneIf permit ∷ 4 ∷ [])
 decideAnswer Decide.NotInRegister = refused 17 []

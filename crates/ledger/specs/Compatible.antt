@@ -4,7 +4,7 @@ use mathlib.Core.Bool.{Bool, _&&_, not}
 use mathlib.Core.List.{List, [], _∷_}
 use lib.ListN.{length}
 use lib.Dec.{eqb, leb}
-use Rattle.sets.specs.Quantifiers.{all, pairwise}
+use Rattle.sets.specs.Quantifiers.{allIn, pairwise}
 use Rattle.validation.specs.Meaning.{conflict}
 use Rattle.validation.specs.Judgement.{meant}
 use Rattle.ledger.specs.Model.{Model}
@@ -15,7 +15,7 @@ use Rattle.ledger.specs.Calls.{drafted}
 -- with the active they are at most 32."
 unfoldable pub compatible : Model → List (List ℕ) → Bool
 compatible m ss =
-    all (λ s. passes (before 14 (draftQuestions meant m s))) ss
+    allIn (λ s. passes (before 14 (draftQuestions meant m s))) ss
     && pairwise (λ s t. not (eqb (drafted s .number) (drafted t .number))) ss
     && pairwise (λ s t. not (conflict (m .register) (m .clock) (drafted s) (drafted t))) ss
     && leb (length (m .active) + length ss) activePlaces

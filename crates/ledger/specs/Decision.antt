@@ -2,25 +2,16 @@
 use Prim.Native.Nat.{ℕ}
 use mathlib.Core.Bool.{Bool, true, _&&_}
 use mathlib.Core.List.{List, [], _∷_}
-use lib.Dec.{eqb, ltb}
-use Rattle.sets.specs.Quantifiers.{pick, one, keep}
+use lib.Dec.{eqb}
+use Rattle.sets.specs.Quantifiers.{pick, oneIf, keep}
 use Rattle.sets.specs.Bits.{bit}
 use Rattle.register.specs.Register.{Contents}
 use Rattle.register.specs.Records.{recordAt}
 use Rattle.directive.specs.declared.Directive.{Directive}
 use Rattle.directive.specs.declared.Query.{Query}
 use Rattle.directive.specs.Matching.{matches, requestAt}
+use Rattle.directive.specs.Lowest.{lowest, lowestNumber}
 use Rattle.ledger.specs.Model.{Model}
-
--- the directive of lowest number among d and these
-unfoldable pub lowest : Directive → List Directive → Directive
-lowest d [] = d
-lowest d (e ∷ es) = lowest (pick (ltb (e .number) (d .number)) e d) es
-
--- the lowest number of a list of directives, if it has one
-abbrev pub lowestNumber : List Directive → List ℕ
-lowestNumber [] = []
-lowestNumber (d ∷ ds) = lowest d ds .number ∷ []
 
 -- An effect, a basis 1..4, and the number that basis 3 names.
 pub record Decision : Type 0 where
@@ -29,7 +20,7 @@ pub record Decision : Type 0 where
   pub named : List ℕ
 
 abbrev pub decisionValues : Decision → List ℕ
-decisionValues a = one (a .permit) ∷ a .basis ∷ a .named
+decisionValues a = oneIf (a .permit) ∷ a .basis ∷ a .named
 
 -- the directives that match the request at hand
 abbrev pub matching : Model → Query → List Directive

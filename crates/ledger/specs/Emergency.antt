@@ -7,6 +7,7 @@ use Rattle.sets.specs.Quantifiers.{someBelow, countBelow}
 use Rattle.sets.specs.Bits.{bit, shares, setOf}
 use Rattle.sets.specs.Words.{wordOf}
 use Rattle.register.specs.declared.Record.{Record}
+use Rattle.ledger.specs.declared.answer.Brief.{Brief}
 use Rattle.register.specs.Records.{recordAt, hasRecord}
 
 -- "cardiac arrest 0x000F, respiratory failure 0x000B, stroke signs 0x0017, low blood sugar 0x0023, haemorrhage 0x00C3,
@@ -32,3 +33,8 @@ briefCount rs states = countBelow (length rs) (disclosed rs states)
 
 abbrev pub briefOf : List Record → ℕ → List ℕ
 briefOf rs states = briefWord rs states 0 ∷ briefWord rs states 1 ∷ briefCount rs states ∷ []
+
+-- the same as the struct that a brief is
+abbrev pub briefStruct : List Record → ℕ → Brief
+briefStruct rs states =
+    record { low = briefWord rs states 0; high = briefWord rs states 1; count = briefCount rs states }

@@ -9,3 +9,5 @@ pub mod Compatible
 pub mod Sound
 pub mod Promises
 pub mod Cases
+pub mod Enrolment
+pub mod Lists

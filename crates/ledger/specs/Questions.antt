@@ -5,7 +5,7 @@ use mathlib.Core.Bool.{Bool, true, _&&_, not}
 use mathlib.Core.List.{List, [], _∷_, _++_}
 use lib.ListN.{length}
 use lib.Dec.{eqb, leb, ltb}
-use Rattle.sets.specs.Quantifiers.{pick, all, some, keep}
+use Rattle.sets.specs.Quantifiers.{pick, allIn, someIn, keep}
 use Rattle.sets.specs.Bits.{nonEmpty}
 use Rattle.register.specs.Register.{Contents}
 use Rattle.register.specs.Records.{hasRecord}
@@ -19,7 +19,7 @@ use Rattle.validation.specs.Requests.{origins, purposes}
 use Rattle.validation.specs.Judgement.{Judgement}
 use Rattle.ledger.specs.Model.{Model}
 use Rattle.ledger.specs.Answer.{Answer, refused}
-use Rattle.ledger.specs.Decision.{lowestNumber}
+use Rattle.directive.specs.Lowest.{lowestNumber}
 
 -- A question: its number, what a "no" adds to the number, and whether the answer is yes.
 pub record Question : Type 0 where
@@ -36,7 +36,7 @@ firstNo [] a = a
 firstNo (q ∷ qs) a = pick (q .holds) (firstNo qs a) (refused (q .number) (q .adds))
 
 abbrev pub passes : List Question → Bool
-passes qs = all (λ q. q .holds) qs
+passes qs = allIn (λ q. q .holds) qs
 
 -- the questions before number n
 unfoldable pub before : ℕ → List Question → List Question
@@ -66,7 +66,7 @@ hasMinutes clock d = ltb (d .from) (d .until) && ltb clock (d .until)
 
 -- an active directive has the number n
 abbrev pub isActive : ℕ → List Directive → Bool
-isActive n ds = some (λ d. eqb (d .number) n) ds
+isActive n ds = someIn (λ d. eqb (d .number) n) ds
 
 -- the places for active directives and for tokens
 abbrev pub activePlaces : ℕ
@@ -85,7 +85,7 @@ conflictQuestion j m d =
     record {
       number = 13;
       adds = lowestNumber (conflicting j m d);
-      holds = not (some (λ e. j .conflicts (m .register) (m .clock) d e) (m .active));
+      holds = not (someIn (λ e. j .conflicts (m .register) (m .clock) d e) (m .active));
     }
 
 -- Questions 7 to 13, of a draft that means the directive d.
@@ -119,14 +119,15 @@ abbrev pub advanceQuestions : Model → ℕ → List Question
 advanceQuestions m t = ask 16 (leb (m .clock) t) ∷ []
 
 -- "Decide: does the register have role and record, origin < 16, purpose < 11? 17."
-abbrev pub decideQuestions : Model → Query → List Question
-decideQuestions m q =
-    ask 17
-    (ltb (q .role) (length (m .register .roles))
-    && hasRecord (m .register .records) (q .«record»)
+abbrev pub isInRange : Contents → Query → Bool
+isInRange c q =
+    ltb (q .role) (length (c .roles))
+    && hasRecord (c .records) (q .«record»)
     && ltb (q .origin) origins
-    && ltb (q .purpose) purposes)
-    ∷ []
+    && ltb (q .purpose) purposes
+
+abbrev pub decideQuestions : Model → Query → List Question
+decideQuestions m q = ask 17 (isInRange (m .register) q) ∷ []
 
 -- "Issue: any state? 18. Length 1..240 and the end at most 4,294,967,295? 19. Number free among live tokens? 20. Fewer than
 -- 4 live? 21." A ledger holds live tokens alone: an end lies past the clock, and advance drops what it reaches.
@@ -134,10 +135,10 @@ abbrev pub issueQuestions : Model → ℕ → ℕ → ℕ → List Question
 issueQuestions m n states minutes =
     ask 18 (nonEmpty states)
     ∷ ask 19 (leb 1 minutes && leb minutes 240 && leb (m .clock + minutes) 4294967295)
-    ∷ ask 20 (not (some (λ t. eqb (t .number) n) (m .tokens)))
+    ∷ ask 20 (not (someIn (λ t. eqb (t .number) n) (m .tokens)))
     ∷ ask 21 (ltb (length (m .tokens)) tokenPlaces)
     ∷ []
 
 -- "Brief: is there a live token of that number for that person? 22."
 abbrev pub briefQuestions : Model → ℕ → ℕ → List Question
-briefQuestions m n p = ask 22 (some (λ t. eqb (t .number) n && eqb (t .person) p) (m .tokens)) ∷ []
+briefQuestions m n p = ask 22 (someIn (λ t. eqb (t .number) n && eqb (t .person) p) (m .tokens)) ∷ []

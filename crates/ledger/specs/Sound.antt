@@ -4,7 +4,7 @@ use mathlib.Core.Path.{_≡_}
 use mathlib.Core.Bool.{Bool, true, _&&_, not}
 use lib.ListN.{length}
 use lib.Dec.{eqb, ltb}
-use Rattle.sets.specs.Quantifiers.{allBelow, all, pairwise}
+use Rattle.sets.specs.Quantifiers.{allBelow, allIn, pairwise}
 use Rattle.sets.specs.Bits.{inBits, nonEmptySet}
 use Rattle.register.specs.Register.{Contents}
 use Rattle.register.specs.Tree.{isTree}
@@ -24,7 +24,7 @@ pub record SoundRegister (c : Contents) : Type 0 where
   pub roles-tree : isTree (c .roles) ≡ true
   pub records-few : length (c .records) ≤ 128
   pub records-fit : allBelow (length (c .records)) (λ x. recordFits x (recordAt (c .records) x)) ≡ true
-  pub records-wide : all recordWidths (c .records) ≡ true
+  pub records-wide : allIn recordWidths (c .records) ≡ true
   pub roles-with-records : 0 < length (c .records) → 0 < length (c .roles)
 
 -- an active directive has passed 7, 8 and 9, and has not run out
@@ -45,12 +45,12 @@ pub record SoundModel (m : Model) : Type 0 where
   pub clock-in : inBits 32 (m .clock) ≡ true
   pub register : SoundRegister (m .register)
   pub active-few : length (m .active) ≤ activePlaces
-  pub active-stand : all (stands m) (m .active) ≡ true
+  pub active-stand : allIn (stands m) (m .active) ≡ true
   pub active-differ : pairwise (λ d e. not (eqb (d .number) (e .number))) (m .active) ≡ true
-  pub baseline-kept : all (λ d. not (breaksBaseline (m .register) (m .patient) (m .clock) d)) (m .active) ≡ true
+  pub baseline-kept : allIn (λ d. not (breaksBaseline (m .register) (m .patient) (m .clock) d)) (m .active) ≡ true
   pub no-clash : pairwise (λ d e. not (conflict (m .register) (m .clock) d e)) (m .active) ≡ true
   pub tokens-few : length (m .tokens) ≤ tokenPlaces
-  pub tokens-live : all (soundToken (m .clock)) (m .tokens) ≡ true
+  pub tokens-live : allIn (soundToken (m .clock)) (m .tokens) ≡ true
   pub tokens-differ : pairwise (λ t k. not (eqb (t .number) (k .number))) (m .tokens) ≡ true
 
 -- A ledger is sound when its counts keep within its arrays and its view is. What stands past a count is free.

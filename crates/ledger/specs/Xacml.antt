@@ -2,14 +2,15 @@
 use Prim.Native.Nat.{ℕ}
 use mathlib.Core.Bool.{Bool, true, false}
 use mathlib.Core.List.{List, [], _∷_, map}
-use Rattle.sets.specs.Quantifiers.{pick, some}
+use Rattle.sets.specs.Quantifiers.{pick, someIn}
 use Rattle.directive.specs.declared.Directive.{Directive}
 use Rattle.directive.specs.declared.Request.{Request}
 use Rattle.directive.specs.declared.Query.{Query}
 use Rattle.directive.specs.Matching.{matches, requestAt}
 use Rattle.register.specs.Register.{Contents}
 use Rattle.ledger.specs.Model.{Model}
-use Rattle.ledger.specs.Decision.{lowest, defaultPermits}
+use Rattle.directive.specs.Lowest.{lowest}
+use Rattle.ledger.specs.Decision.{defaultPermits}
 
 pub data Result : Type 0 where
   Permit : Result
@@ -29,11 +30,11 @@ isDeny NotApplicable = false
 -- XACML 3.0, C.2 deny-overrides, where no result is Indeterminate: any Deny gives Deny; otherwise any Permit gives Permit;
 -- otherwise NotApplicable.
 unfoldable pub denyOverrides : List Result → Result
-denyOverrides rs = pick (some isDeny rs) Deny (pick (some isPermit rs) Permit NotApplicable)
+denyOverrides rs = pick (someIn isDeny rs) Deny (pick (someIn isPermit rs) Permit NotApplicable)
 
 -- XACML 3.0, C.4 permit-overrides, likewise with the two exchanged
 unfoldable pub permitOverrides : List Result → Result
-permitOverrides rs = pick (some isPermit rs) Permit (pick (some isDeny rs) Deny NotApplicable)
+permitOverrides rs = pick (someIn isPermit rs) Permit (pick (someIn isDeny rs) Deny NotApplicable)
 
 -- "an active directive gives its effect where it matches and NotApplicable elsewhere"
 abbrev pub resultOf : Contents → Request → Directive → Result

@@ -5,6 +5,12 @@ ghost use mathlib.Core.Path.{_≡_};
 ghost use Rattle.ledger.specs.Model.{noToken, emptyLedger};
 
 pub mod answer;
+pub mod calls;
+pub mod decision;
+pub mod emergency;
+pub mod enrolment;
+mod lists;
+pub mod views;
 
 pub struct Token {
     pub number: u16,

@@ -1,2 +1,7 @@
 pub mod TreeLaws
 pub mod ReachLaws
+pub mod ArrayLaws
+pub mod RecordLaws
+pub mod CallLaws
+pub mod FieldLaws
+pub mod FormLaws

@@ -2,6 +2,10 @@
 ghost use mathlib.Core.Path.{_≡_};
 ghost use Rattle.register.specs.Register.{noRecord, emptyRegister};
 
+pub mod form;
+pub mod records;
+pub mod roles;
+
 pub struct Record {
     pub parent: u8,
     pub author: u16,

@@ -13,22 +13,22 @@ use lib.Arith.{digits-lt, digits-mod, digits-div}
 use lib.Pow.{pow-pos, pow-mono, pow-lt, shr-lt, shl-exact, field, mod-mod-pow}
 use lib.Bits.{bitAnd, bitOr, and-step, and-shr, and-le-l, or-step, or-shr}
 use lib.Count.{ones, ones-cat, ones-le}
-use Rattle.sets.specs.Quantifiers.{one, countBelow}
+use Rattle.sets.specs.Quantifiers.{oneIf, someBelow, someOf, countBelow}
 use Rattle.sets.specs.Bits.{bit, subset, shares, setOf}
-use Rattle.sets.proofs.Quantifiers.{same-test, either-way, never-true, and-both, both-ways, every-of, some-of}
-use Rattle.sets.proofs.Ranges.{count-same}
+use Rattle.sets.proofs.Quantifiers.{same-test, either-way, never-true, and-both, both-ways, every-of, some-below}
+use Rattle.sets.proofs.Ranges.{some-same, some-narrow, count-same}
 
 -- a digit and its test
-digit : (x : ℕ) → x < 2 → one (eqb x 1) ≡ x
+digit : (x : ℕ) → x < 2 → oneIf (eqb x 1) ≡ x
 digit zero h = refl
 digit (suc zero) h = refl
 digit (suc (suc x)) h = absurd (omega arith)
 
-test-one : (b : Bool) → eqb (one b % 2) 1 ≡ b
+test-one : (b : Bool) → eqb (oneIf b % 2) 1 ≡ b
 test-one true = refl
 test-one false = refl
 
-one-lt : (b : Bool) → one b < 2
+one-lt : (b : Bool) → oneIf b < 2
 one-lt true = omega arith
 one-lt false = omega arith
 
@@ -36,23 +36,23 @@ one-lt false = omega arith
 module _ (op f : ℕ → ℕ → ℕ) (g : Bool → Bool → Bool)
     (shr : (a b k : ℕ) → op a b / 2 ^ k ≡ op (a / 2 ^ k) (b / 2 ^ k))
     (step : (a b : ℕ) → op a b ≡ op (a / 2) (b / 2) * 2 + f (a % 2) (b % 2))
-    (digits : (x y : Bool) → f (one x) (one y) ≡ one (g x y)) where
+    (digits : (x y : Bool) → f (oneIf x) (oneIf y) ≡ oneIf (g x y)) where
   bit-op : (k a b : ℕ) → bit k (op a b) ≡ g (bit k a) (bit k b)
   bit-op k a b =
       let x = a / 2 ^ k in
       let y = b / 2 ^ k in
-      let e : op x y ≡ op (x / 2) (y / 2) * 2 + one (g (bit k a) (bit k b)) =
+      let e : op x y ≡ op (x / 2) (y / 2) * 2 + oneIf (g (bit k a) (bit k b)) =
       step x y
       ∙ ap (λ (n : ℕ). op (x / 2) (y / 2) * 2 + n)
       (ap₂ f (sym (digit (x % 2) (omega arith))) (sym (digit (y % 2) (omega arith))) ∙ digits (bit k a) (bit k b)) in
       ap (λ (n : ℕ). eqb (n % 2) 1) (shr a b k ∙ e)
-      ∙ ap (λ (n : ℕ). eqb n 1) (mul-add-mod-self-right (op (x / 2) (y / 2)) 2 (one (g (bit k a) (bit k b))))
+      ∙ ap (λ (n : ℕ). eqb n 1) (mul-add-mod-self-right (op (x / 2) (y / 2)) 2 (oneIf (g (bit k a) (bit k b))))
       ∙ test-one (g (bit k a) (bit k b))
 
 pub bit-and : (k a b : ℕ) → bit k (bitAnd a b) ≡ bit k a && bit k b
 bit-and = bit-op bitAnd min _&&_ and-shr and-step both
   where
-    both : (x y : Bool) → min (one x) (one y) ≡ one (x && y)
+    both : (x y : Bool) → min (oneIf x) (oneIf y) ≡ oneIf (x && y)
     both true true = refl
     both true false = refl
     both false true = refl
@@ -61,7 +61,7 @@ bit-and = bit-op bitAnd min _&&_ and-shr and-step both
 pub bit-or : (k a b : ℕ) → bit k (bitOr a b) ≡ bit k a || bit k b
 bit-or = bit-op bitOr max _||_ or-shr or-step either
   where
-    either : (x y : Bool) → max (one x) (one y) ≡ one (x || y)
+    either : (x y : Bool) → max (oneIf x) (oneIf y) ≡ oneIf (x || y)
     either true true = refl
     either true false = refl
     either false true = refl
@@ -83,7 +83,7 @@ bit-low n k a h =
     (ap (λ (m : ℕ). a % 2 ^ m / 2 ^ k % 2) e ∙ ap (λ (x : ℕ). x % 2) (field a (j + 1) k) ∙ mod-mod-pow (a / 2 ^ k) j 1)
 
 -- bit n of a number of n + 1 bits is what stands above its n low bits
-top-bit : (n a : ℕ) → a < 2 ^ suc n → one (bit n a) ≡ a / 2 ^ n
+top-bit : (n a : ℕ) → a < 2 ^ suc n → oneIf (bit n a) ≡ a / 2 ^ n
 top-bit n a h = digit (a / 2 ^ n % 2) (omega arith) ∙ mod-eq-of-lt (shr-lt 1 n (rw one-add h))
 
 -- a set of numbers below n is a number below 2 ^ n, and a number is the set of its bits
@@ -99,7 +99,7 @@ set-ext (suc n) a p h f =
     sym (mod-add-div' a (2 ^ n))
     ∙ ap₂ (λ (x y : ℕ). x + y * 2 ^ n)
     (set-ext n (a % 2 ^ n) p (mod-lt a (pow-pos n)) (λ k l. bit-low n k a l ∙ f k (omega arith)))
-    (sym (top-bit n a h) ∙ ap one (f n (omega arith)))
+    (sym (top-bit n a h) ∙ ap oneIf (f n (omega arith)))
 
 pub bits-ext : (n a b : ℕ) → a < 2 ^ n → b < 2 ^ n → ((k : ℕ) → k < n → bit k a ≡ bit k b) → a ≡ b
 bits-ext n a b h l f = set-ext n a (λ k. bit k b) h f ∙ sym (set-ext n b (λ k. bit k b) l (λ k _. refl))
@@ -118,14 +118,14 @@ set-bit (suc n) k p =
           ]
     ]
   where
-    swap : setOf n p + one (p n) * 2 ^ n ≡ one (p n) * 2 ^ n + setOf n p
+    swap : setOf n p + oneIf (p n) * 2 ^ n ≡ oneIf (p n) * 2 ^ n + setOf n p
     swap = omega arith
 
-    low : (setOf n p + one (p n) * 2 ^ n) % 2 ^ n ≡ setOf n p
-    low = rw swap (digits-mod (one (p n)) (set-bound n p))
+    low : (setOf n p + oneIf (p n) * 2 ^ n) % 2 ^ n ≡ setOf n p
+    low = rw swap (digits-mod (oneIf (p n)) (set-bound n p))
 
-    high : (setOf n p + one (p n) * 2 ^ n) / 2 ^ n ≡ one (p n)
-    high = rw swap (digits-div (one (p n)) (set-bound n p))
+    high : (setOf n p + oneIf (p n) * 2 ^ n) / 2 ^ n ≡ oneIf (p n)
+    high = rw swap (digits-div (oneIf (p n)) (set-bound n p))
 
 -- a power of two has one bit
 pub bit-power : (k j : ℕ) → bit j (2 ^ k) ≡ eqb k j
@@ -146,7 +146,7 @@ bit-with n k j a h =
     (or-comm (bit j a) (eqb k j))
 
 -- the ones of a number are as many as the numbers in the set
-ones-one : (b : Bool) → ones (one b) ≡ one b
+ones-one : (b : Bool) → ones (oneIf b) ≡ oneIf b
 unfolding ones
 ones-one true = refl
 ones-one false = refl
@@ -160,7 +160,26 @@ ones-count (suc n) a h =
     (ap ones (sym (top-bit n a h)) ∙ ones-one (bit n a))
     (ones-count n (a % 2 ^ n) (mod-lt a (pow-pos n))
     ∙ count-same (λ k. bit k (a % 2 ^ n)) (λ k. bit k a) n (λ k l. bit-low n k a l))
-    ∙ add-comm (one (bit n a)) (countBelow n (λ k. bit k a))
+    ∙ add-comm (oneIf (bit n a)) (countBelow n (λ k. bit k a))
+
+-- a number of n bits has one of them set where it is not 0
+pub some-bits : (n a : ℕ) → a < 2 ^ n → someBelow n (λ k. bit k a) ≡ not (eqb a 0)
+some-bits n a h =
+    let someIn = some-below n in
+    ⊎-elim
+    (λ t.
+    let (k, i, e) = someIn .read (λ k. bit k a) t in
+    t ∙ sym (ap not (ne-eqb a 0 (λ z. both-ways e (ap (bit k) z ∙ bit-zero k)))))
+    (λ t.
+    let none : (k : ℕ) → k < n → bit k a ≡ bit k 0 =
+    λ k l. never-true (bit k a) (λ e. both-ways (someIn .make (λ k. bit k a) k l e) t) ∙ sym (bit-zero k) in
+    t ∙ sym (ap not (eq-eqb a 0 (bits-ext n a 0 h (pow-pos n) none))))
+    (either-way (someBelow n (λ k. bit k a)))
+
+-- of any number, where its rest by 2 ^ n is not 0
+pub some-low-bits : (n a : ℕ) → someBelow n (λ k. bit k a) ≡ not (eqb (a % 2 ^ n) 0)
+some-low-bits n a =
+    some-same _ _ n (λ k l. sym (bit-low n k a l)) ∙ some-bits n (a % 2 ^ n) (mod-lt a (pow-pos n))
 
 -- a lies in b where `a & b` is a, and they share a bit where it is not 0
 module _ (n a b : ℕ) (h : a < 2 ^ n) where
@@ -185,19 +204,11 @@ module _ (n a b : ℕ) (h : a < 2 ^ n) where
       absorb false y f = refl
 
   pub shares-and : not (eqb (bitAnd a b) 0) ≡ shares n a b
-  shares-and =
-      let some = some-of n (λ k. bit k a) in
-      ⊎-elim
-      (λ t.
-      let (k, i, e) = some .read (λ k. bit k b) t in
-      let set : bit k (bitAnd a b) ≡ true = bit-and k a b ∙ rw (i .1, e) in
-      ap not (ne-eqb (bitAnd a b) 0 (λ z. both-ways set (ap (bit k) z ∙ bit-zero k))) ∙ sym t)
-      (λ t.
-      let none : (k : ℕ) → k < n → bit k a && bit k b ≡ false =
-      λ k l. never-true (bit k a && bit k b)
-      (λ e. let (x, y) = and-both (bit k a) (bit k b) e in both-ways (some .make (λ k. bit k b) k (l, x) y) t) in
-      ap not
-      (eq-eqb (bitAnd a b) 0
-      (bits-ext n (bitAnd a b) 0 small (pow-pos n) (λ k l. bit-and k a b ∙ none k l ∙ sym (bit-zero k))))
-      ∙ sym t)
-      (either-way (shares n a b))
+  unfolding someOf
+  shares-and = sym (some-bits n (bitAnd a b) small) ∙ some-same _ _ n (λ k _. bit-and k a b)
+
+-- what the n low bits of a share with b
+pub shares-low : (n m a b : ℕ) → n ≤ m → shares m (a % 2 ^ n) b ≡ shares n a b
+shares-low n m a b h =
+    some-narrow n m _ _ _ _ h (λ k l. bit-low n k a l) (λ k l. refl)
+    (λ k l _. bit-past n k (a % 2 ^ n) (mod-lt a (pow-pos n)) l)

@@ -1,13 +1,15 @@
 -- Laws of `keep` and `count`: what passes stays, what does not pass leaves the list shorter, and what held of the elements
 -- still holds.
-use Prim.Native.Nat.{suc, _+_, _<_, _≤_}
+use Prim.Native.Nat.{ℕ, suc, _+_, _<_, _≤_}
 use mathlib.Core.Path.{_≡_, refl}
 use mathlib.Core.Bool.{Bool, true, false, not}
 use mathlib.Core.Logic.{⊎-elim}
-use mathlib.Core.List.{List, [], _∷_, List·Memᴰ, List·Memᴰ·head, List·Memᴰ·tail}
+use mathlib.Core.List.{List, [], _∷_, _++_, append-nil, List·Memᴰ, List·Memᴰ·head, List·Memᴰ·tail}
+use native.Mathlib.Numerals.{add-one}
 use native.Mathlib.Omega.{arith}
-use lib.ListN.{length}
-use Rattle.sets.specs.Quantifiers.{pick, one, all, some, keep, count, pairwise}
+use lib.ListN.{length, getD, take}
+use lib.Seq.{take-suc}
+use Rattle.sets.specs.Quantifiers.{pick, oneIf, allIn, someIn, keep, count, pairwise}
 use Rattle.sets.proofs.Quantifiers.{either-way, both-ways, never-true, and-both, every-list, some-list}
 
 one-more : {A : Type 0} (b : Bool) (x : A) (l : List A) → length (pick b (x ∷ l) l) ≤ suc (length l)
@@ -36,8 +38,8 @@ module _ {A : Type 0} (p : A → Bool) where
 
   pub all-keep :
       (q r : A → Bool) → ((a : A) → p a ≡ true → q a ≡ true → r a ≡ true) →
-      (l : List A) → all q l ≡ true → all r (keep p l) ≡ true
-  unfolding all keep
+      (l : List A) → allIn q l ≡ true → allIn r (keep p l) ≡ true
+  unfolding allIn keep
   all-keep q r f [] e = refl
   all-keep q r f (x ∷ l) e =
       let (here, rest) = and-both (q x) _ e in
@@ -48,8 +50,8 @@ module _ {A : Type 0} (p : A → Bool) where
       (either-way (p x))
 
   pub some-keep :
-      (q : A → Bool) → ((a : A) → q a ≡ true → p a ≡ true) → (l : List A) → some q (keep p l) ≡ some q l
-  unfolding some keep
+      (q : A → Bool) → ((a : A) → q a ≡ true → p a ≡ true) → (l : List A) → someIn q (keep p l) ≡ someIn q l
+  unfolding someIn keep
   some-keep q f [] = refl
   some-keep q f (x ∷ l) =
       let kept = some-keep q f l in
@@ -64,7 +66,7 @@ module _ {A : Type 0} (p : A → Bool) where
   unfolding keep pairwise
   pairwise-keep q r f [] e = refl
   pairwise-keep q r f (x ∷ l) e =
-      let (here, rest) = and-both (all (q x) l) _ e in
+      let (here, rest) = and-both (allIn (q x) l) _ e in
       let kept = pairwise-keep q r f l rest in
       ⊎-elim
       (λ (t : p x ≡ true). rw (t, all-keep (q x) (r x) (λ b _. f x b) l here, kept))
@@ -76,7 +78,7 @@ module _ {A : Type 0} (p : A → Bool) where
   count-keep [] = refl
   count-keep (x ∷ l) =
       let rest = keep (λ a. not (p a)) l in
-      elim (p x) as (λ b. one b + count p l + length (pick (not b) (x ∷ rest) rest) ≡ suc (length l)) [
+      elim (p x) as (λ b. oneIf b + count p l + length (pick (not b) (x ∷ rest) rest) ≡ suc (length l)) [
         | true ↦ omega (arith, count-keep l)
         | false ↦ omega (arith, count-keep l)
       ]
@@ -84,17 +86,41 @@ module _ {A : Type 0} (p : A → Bool) where
   -- where r holds of any two elements, and of no two that pass, at most one passes
   pub count-once :
       (r : A → A → Bool) → ((a b : A) → p a ≡ true → p b ≡ true → r a b ≡ false) →
-      (l : List A) → pairwise r l ≡ true → count p l ≡ one (some p l)
-  unfolding all some count pairwise
+      (l : List A) → pairwise r l ≡ true → count p l ≡ oneIf (someIn p l)
+  unfolding allIn someIn count pairwise
   count-once r f [] e = refl
   count-once r f (x ∷ l) e =
-      let (here, rest) = and-both (all (r x) l) _ e in
+      let (here, rest) = and-both (allIn (r x) l) _ e in
       let fewer = count-once r f l rest in
       ⊎-elim
       (λ (t : p x ≡ true).
-      let others : some p l ≡ false = never-true (some p l) (λ u.
+      let others : someIn p l ≡ false = never-true (someIn p l) (λ u.
       let (a, m, v) = some-list l .read p u in both-ways (every-list l .read (r x) here a m) (f x a t v))
       in
       rw (t, fewer, others))
       (λ (t : p x ≡ false). rw (t, fewer) (omega arith))
       (either-way (p x))
+
+-- what passes of two lists, and of the first elements of a list with one more
+module _ {A : Type 0} (p : A → Bool) where
+  keep-append : (s t : List A) → keep p (s ++ t) ≡ keep p s ++ keep p t
+  unfolding keep
+  keep-append [] t = refl
+  keep-append (a ∷ s) t =
+      ⊎-elim
+      (λ (e : p a ≡ true). rw (e, keep-append s t))
+      (λ (e : p a ≡ false). rw (e, keep-append s t))
+      (either-way (p a))
+
+  keep-snoc : (l : List A) (a : A) → keep p (l ++ (a ∷ [])) ≡ pick (p a) (keep p l ++ (a ∷ [])) (keep p l)
+  unfolding keep
+  keep-snoc l a =
+      ⊎-elim
+      (λ (e : p a ≡ true). rw (keep-append l (a ∷ []), e))
+      (λ (e : p a ≡ false). rw (keep-append l (a ∷ []), e) (append-nil (keep p l)))
+      (either-way (p a))
+
+  pub keep-next :
+      (l : List A) (i : ℕ) (d : A) → i < length l →
+      keep p (take (i + 1) l) ≡ pick (p (getD l i d)) (keep p (take i l) ++ (getD l i d ∷ [])) (keep p (take i l))
+  keep-next l i d h = rw (add-one, take-suc l i d) (keep-snoc (take i l) (getD l i d))

@@ -3,6 +3,5 @@ pub mod Keep
 pub mod Lists
 pub mod Ranges
 pub mod BitLaws
-pub mod Subsets
 pub mod WordLaws
 pub mod Numbers

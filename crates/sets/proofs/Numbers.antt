@@ -11,14 +11,14 @@ use lib.Dec.{ltb, lit<}
 use lib.Arith.{digits-div, digits-mod}
 use lib.ListN.{length, getD, set, take, drop, length-append, length-take, length-drop, take-append-drop}
 use lib.Seq.{sets, drop-cons, append-snoc, take-append-le, drop-append-le, drop-append-add}
-use Rattle.sets.specs.Quantifiers.{all}
+use Rattle.sets.specs.Quantifiers.{allIn}
 use Rattle.sets.specs.Numbers.{numberFrom, number, numberAt, bytes, isBytes}
 use Rattle.sets.proofs.Quantifiers.{and-both}
 use Rattle.sets.proofs.Lists.{all-append, all-take, all-drop}
 
 -- a number of n bytes is below 256 ^ n
 pub number-from-bound : (a : ℕ) (s : List ℕ) → isBytes s ≡ true → numberFrom a s < (a + 1) * 256 ^ length s
-unfolding numberFrom all
+unfolding numberFrom allIn
 number-from-bound a [] e = omega arith
 number-from-bound a (b ∷ s) e =
     let (byte, rest) = and-both (ltb b 256) (isBytes s) e in
@@ -45,7 +45,7 @@ length-bytes zero v = refl
 length-bytes (suc n) v = rw (length-append, length-bytes n (v / 256)) (add-one n)
 
 pub bytes-are-bytes : (n v : ℕ) → isBytes (bytes n v) ≡ true
-unfolding bytes all
+unfolding bytes allIn
 bytes-are-bytes zero v = refl
 bytes-are-bytes (suc n) v =
     rw (all-append, bytes-are-bytes n (v / 256), lt-ltb (v % 256) 256 (omega arith))
@@ -59,7 +59,7 @@ number-of-bytes (suc n) v h =
 
 bytes-after :
     (n a : ℕ) (s : List ℕ) → isBytes s ≡ true → bytes (n + length s) (numberFrom a s) ≡ bytes n a ++ s
-unfolding numberFrom bytes all
+unfolding numberFrom bytes allIn
 bytes-after n a [] e = rw (add-zero, append-nil)
 bytes-after n a (b ∷ s) e =
     let (byte, rest) = and-both (ltb b 256) (isBytes s) e in

@@ -8,7 +8,7 @@ use native.Mathlib.Omega.{arith}
 use native.Mathlib.Decide.{ℕ-discrete}
 use borrow.Author.Tests.{not-true}
 use borrow.Author.Count.{below-more}
-use Rattle.sets.specs.Quantifiers.{implies, allBelow, someBelow, allOf, someOf, all, some}
+use Rattle.sets.specs.Quantifiers.{implies, allBelow, someBelow, allOf, someOf, allIn, someIn}
 
 -- two tests that say the same
 pub same-test : (a b : Bool) → (a ≡ true → b ≡ true) → (b ≡ true → a ≡ true) → a ≡ b
@@ -87,11 +87,11 @@ module _ {A : Type 0} {In : A → Type 0} {q : (A → Bool) → Bool} (f : A →
       }
 
   pub some-where : Some A In q → Some A (λ a. In a × (f a ≡ true)) (λ p. q (λ a. f a && p a))
-  some-where some =
+  some-where someIn =
       record {
         read = λ p e.
-            let (a, i, both) = some .read _ e in let (t, u) = and-both (f a) (p a) both in (a, (i, t), u);
-        make = λ p a h e. some .make _ a (h .0) (rw (h .1) e);
+            let (a, i, both) = someIn .read _ e in let (t, u) = and-both (f a) (p a) both in (a, (i, t), u);
+        make = λ p a h e. someIn .make _ a (h .0) (rw (h .1) e);
       }
 
 -- numbers below n
@@ -144,49 +144,49 @@ module _ (n : ℕ) (f : ℕ → Bool) where
 
 -- elements of a list
 module _ {A : Type 0} (p : A → Bool) where
-  every-list-read : (l : List A) → all p l ≡ true → (a : A) → List·Memᴰ a l → p a ≡ true
-  unfolding all
+  every-list-read : (l : List A) → allIn p l ≡ true → (a : A) → List·Memᴰ a l → p a ≡ true
+  unfolding allIn
   every-list-read (x ∷ l) e a (List·Memᴰ·head q) = rw q (and-both (p x) _ e .0)
   every-list-read (x ∷ l) e a (List·Memᴰ·tail m) = every-list-read l (and-both (p x) _ e .1) a m
 
-  every-list-make : (l : List A) → ((a : A) → List·Memᴰ a l → p a ≡ true) → all p l ≡ true
-  unfolding all
+  every-list-make : (l : List A) → ((a : A) → List·Memᴰ a l → p a ≡ true) → allIn p l ≡ true
+  unfolding allIn
   every-list-make [] f = refl
   every-list-make (x ∷ l) f =
       rw (f x (List·Memᴰ·head refl), every-list-make l (λ a m. f a (List·Memᴰ·tail m)))
 
-  some-list-read : (l : List A) → some p l ≡ true → (a : A) × List·Memᴰ a l × (p a ≡ true)
-  unfolding some
+  some-list-read : (l : List A) → someIn p l ≡ true → (a : A) × List·Memᴰ a l × (p a ≡ true)
+  unfolding someIn
   some-list-read [] e = both-ways e refl
   some-list-read (x ∷ l) e =
       ⊎-elim
       (λ f. (x, List·Memᴰ·head refl, f))
       (λ f. let t = some-list-read l f in (t .0, List·Memᴰ·tail (t .1), t .2))
-      (or-cases (p x) (some p l) e)
+      (or-cases (p x) (someIn p l) e)
 
-  some-list-make : (l : List A) (a : A) → List·Memᴰ a l → p a ≡ true → some p l ≡ true
-  unfolding some
+  some-list-make : (l : List A) (a : A) → List·Memᴰ a l → p a ≡ true → someIn p l ≡ true
+  unfolding someIn
   some-list-make (x ∷ l) a (List·Memᴰ·head q) e = rw (← q, e)
   some-list-make (x ∷ l) a (List·Memᴰ·tail m) e = or-right (p x) _ (some-list-make l a m e)
 
 module _ {A : Type 0} (l : List A) where
-  pub every-list : Every A (λ a. List·Memᴰ a l) (λ p. all p l)
+  pub every-list : Every A (λ a. List·Memᴰ a l) (λ p. allIn p l)
   every-list = record { read = λ p. every-list-read p l; make = λ p. every-list-make p l }
 
-  pub some-list : Some A (λ a. List·Memᴰ a l) (λ p. some p l)
+  pub some-list : Some A (λ a. List·Memᴰ a l) (λ p. someIn p l)
   some-list = record { read = λ p. some-list-read p l; make = λ p. some-list-make p l }
 
 -- where not every value passes, some value fails
 pub a-failure :
     {A : Type 0} {In : A → Type 0} {q s : (A → Bool) → Bool} →
     Every A In q → Some A In s → (p : A → Bool) → q p ≡ false → (a : A) × In a × (p a ≡ false)
-a-failure {s} every some p t =
+a-failure {s} every someIn p t =
     ⊎-elim
-    (λ e. let (a, i, f) = some .read (λ a. not (p a)) e in (a, i, not-true (p a) f))
+    (λ e. let (a, i, f) = someIn .read (λ a. not (p a)) e in (a, i, not-true (p a) f))
     (λ e.
     both-ways
     (every .make p
     (λ a i.
-    ⊎-elim (λ f. f) (λ f. both-ways (some .make (λ a. not (p a)) a i (ap not f)) e) (either-way (p a))))
+    ⊎-elim (λ f. f) (λ f. both-ways (someIn .make (λ a. not (p a)) a i (ap not f)) e) (either-way (p a))))
     t)
     (either-way (s (λ a. not (p a))))

@@ -1,10 +1,14 @@
--- Laws of the numbers below n: tests that agree there, and the numbers below n + m in two parts.
-use Prim.Native.Nat.{ℕ, zero, suc, _+_, _<_}
-use mathlib.Core.Path.{_≡_, refl}
-use mathlib.Core.Bool.{Bool, _||_, or-assoc, or-false}
+-- Laws of the numbers below n: tests that agree there, the numbers below n + m in two parts, and tests that no number from n on
+-- passes.
+use Prim.Native.Nat.{ℕ, zero, suc, _+_, _<_, _≤_}
+use mathlib.Core.Path.{_≡_, refl, sym, _∙_}
+use mathlib.Core.Bool.{Bool, false, _&&_, _||_, or-assoc, or-false}
 use native.Mathlib.Nat.{add-zero, add-suc}
+use native.Mathlib.Numerals.{add-one}
+use native.Mathlib.Decide.{decLt}
 use native.Mathlib.Omega.{arith}
 use Rattle.sets.specs.Quantifiers.{allBelow, someBelow, countBelow, someOf}
+use Rattle.sets.proofs.Quantifiers.{same-test, both-ways, some-of}
 
 -- tests that agree below n
 module _ (p q : ℕ → Bool) where
@@ -36,3 +40,25 @@ pub count-split :
 unfolding countBelow
 count-split n zero p = rw (add-zero n) (omega arith)
 count-split n (suc m) p = rw (add-suc, count-split n m p) (omega arith)
+
+-- one number more that does not pass
+pub none-more :
+    (n : ℕ) (f p : ℕ → Bool) → someOf n f p ≡ false → f n && p n ≡ false → someOf (n + 1) f p ≡ false
+unfolding someOf someBelow
+none-more n f p e h = rw (add-one, e) h
+
+-- where f is g below n and passes no number from n on, and p is q below n
+pub some-narrow :
+    (n m : ℕ) (f p g q : ℕ → Bool) → n ≤ m → ((k : ℕ) → k < n → f k ≡ g k) → ((k : ℕ) → k < n → p k ≡ q k) →
+    ((k : ℕ) → n ≤ k → k < m → f k ≡ false) → someOf m f p ≡ someOf n g q
+some-narrow n m f p g q short same-f same-p none =
+    same-test (someOf m f p) (someOf n g q)
+    (λ t.
+    let (k, h, e) = some-of m f .read p t in
+    elim (decLt k n) [
+      | yes l ↦ some-of n g .make q k (l, sym (same-f k l) ∙ h .1) (sym (same-p k l) ∙ e)
+      | no l ↦ both-ways (h .1) (none k (omega arith) (h .0))
+    ])
+    (λ t.
+    let (k, h, e) = some-of n g .read q t in
+    some-of m f .make p k (omega arith, same-f k (h .0) ∙ h .1) (same-p k (h .0) ∙ e))

@@ -2,7 +2,7 @@
 use Prim.Native.Nat.{ℕ, zero, suc, _+_, _*_, _/_, _%_, _^_}
 use mathlib.Core.Bool.{Bool, _&&_}
 use lib.Dec.{eqb, ltb}
-use Rattle.sets.specs.Quantifiers.{one, allOf, someOf}
+use Rattle.sets.specs.Quantifiers.{oneIf, allOf, someOf}
 
 -- k is in the set a: the bit of weight 2 ^ k is set
 abbrev pub bit : ℕ → ℕ → Bool
@@ -19,7 +19,7 @@ shares n a b = someOf n (λ k. bit k a) (λ k. bit k b)
 -- the set, as a number, of those numbers below n that pass p
 unfoldable pub setOf : ℕ → (ℕ → Bool) → ℕ
 setOf zero p = 0
-setOf (suc n) p = setOf n p + one (p n) * 2 ^ n
+setOf (suc n) p = setOf n p + oneIf (p n) * 2 ^ n
 
 -- a set is empty where its number is 0
 abbrev pub nonEmpty : ℕ → Bool

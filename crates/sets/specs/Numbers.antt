@@ -4,7 +4,7 @@ use mathlib.Core.Bool.{Bool}
 use mathlib.Core.List.{List, [], _∷_, _++_}
 use lib.ListN.{take, drop}
 use lib.Dec.{ltb}
-use Rattle.sets.specs.Quantifiers.{all}
+use Rattle.sets.specs.Quantifiers.{allIn}
 
 -- the number that these bytes write, after what stands before them
 unfoldable pub numberFrom : ℕ → List ℕ → ℕ
@@ -26,4 +26,4 @@ bytes (suc n) v = bytes n (v / 256) ++ (v % 256 ∷ [])
 
 -- every element is a byte
 abbrev pub isBytes : List ℕ → Bool
-isBytes s = all (λ b. ltb b 256) s
+isBytes s = allIn (λ b. ltb b 256) s

@@ -9,9 +9,9 @@ pick true x y = x
 pick false x y = y
 
 -- 1 where the test holds
-abbrev pub one : Bool → ℕ
-one true = 1
-one false = 0
+abbrev pub oneIf : Bool → ℕ
+oneIf true = 1
+oneIf false = 0
 
 abbrev pub implies : Bool → Bool → Bool
 implies true b = b
@@ -28,7 +28,7 @@ someBelow (suc n) p = someBelow n p || p n
 -- how many numbers below n pass p
 unfoldable pub countBelow : ℕ → (ℕ → Bool) → ℕ
 countBelow zero p = 0
-countBelow (suc n) p = countBelow n p + one (p n)
+countBelow (suc n) p = countBelow n p + oneIf (p n)
 
 -- the same of the numbers below n that pass f
 unfoldable pub allOf : ℕ → (ℕ → Bool) → (ℕ → Bool) → Bool
@@ -38,13 +38,13 @@ unfoldable pub someOf : ℕ → (ℕ → Bool) → (ℕ → Bool) → Bool
 someOf n f p = someBelow n (λ k. f k && p k)
 
 module _ {A : Type 0} where
-  unfoldable pub all : (A → Bool) → List A → Bool
-  all p [] = true
-  all p (a ∷ l) = p a && all p l
+  unfoldable pub allIn : (A → Bool) → List A → Bool
+  allIn p [] = true
+  allIn p (a ∷ l) = p a && allIn p l
 
-  unfoldable pub some : (A → Bool) → List A → Bool
-  some p [] = false
-  some p (a ∷ l) = p a || some p l
+  unfoldable pub someIn : (A → Bool) → List A → Bool
+  someIn p [] = false
+  someIn p (a ∷ l) = p a || someIn p l
 
   -- the elements that pass p, in their order
   unfoldable pub keep : (A → Bool) → List A → List A
@@ -54,9 +54,9 @@ module _ {A : Type 0} where
   -- how many elements pass p
   unfoldable pub count : (A → Bool) → List A → ℕ
   count p [] = 0
-  count p (a ∷ l) = one (p a) + count p l
+  count p (a ∷ l) = oneIf (p a) + count p l
 
   -- each element is in the relation p to every later one
   unfoldable pub pairwise : (A → A → Bool) → List A → Bool
   pairwise p [] = true
-  pairwise p (a ∷ l) = all (p a) l && pairwise p l
+  pairwise p (a ∷ l) = allIn (p a) l && pairwise p l

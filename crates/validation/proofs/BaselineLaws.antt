@@ -1,14 +1,14 @@
 -- A deny breaks the baseline exactly where the search finds that it does.
 use Prim.Native.Nat.{ℕ, _<_, _≤_}
-use mathlib.Core.Path.{_≡_, refl, ap, ap₂, _∙_}
+use mathlib.Core.Path.{_≡_, refl, sym, ap, ap₂, _∙_}
 use mathlib.Core.Bool.{Bool, true, false, _&&_, not, and-false}
 use mathlib.Core.Logic.{_⊎_, inl, inr, ⊎-elim}
 use native.Mathlib.Omega.{arith}
 use borrow.Author.Tests.{not-true, eqb-true, eq-eqb, ltb-true, lt-ltb}
 use lib.ListN.{length}
 use lib.Dec.{eqb, ltb}
-use Rattle.sets.specs.Quantifiers.{someBelow}
-use Rattle.sets.proofs.Quantifiers.{both-ways, and-both, or-cases, or-right, some-below, some-of}
+use Rattle.sets.specs.Quantifiers.{someBelow, someOf}
+use Rattle.sets.proofs.Quantifiers.{same-test, both-ways, and-both, or-cases, or-right, some-below, some-of}
 use Rattle.register.specs.Register.{Contents}
 use Rattle.register.specs.Records.{recordAt}
 use Rattle.directive.specs.declared.Subject.{Subject}
@@ -32,6 +32,39 @@ pub record Broken (c : Contents) (patient clock : ℕ) (d : Directive) : Type 0 
   pub in-range : InRange c clock denied
   pub matched : matches c d denied ≡ true
   pub baseline : (recordAt (c .records) (denied .«record») .author ≡ person) ⊎ (patient ≡ person)
+
+-- what the search finds of the person n whom a deny names, one dimension at a time
+pub record FoundFor (c : Contents) (patient clock : ℕ) (d : Directive) (n : ℕ) : Type 0 where
+  pub own : someOf (length (c .records)) (selects (c .records) d) (hasBaseline c patient n) ≡ true
+  pub origin : someBelow origins (fromOrigin d) ≡ true
+  pub purpose : someBelow purposes (forPurpose d) ≡ true
+  pub span : start clock d < d .until
+
+module _ (c : Contents) (patient clock : ℕ) (d : Directive) (n : ℕ) where
+  pub found-for-read : breaksForFound c patient clock d (Person n) ≡ true → FoundFor c patient clock d n
+  found-for-read t =
+      let (to-purpose, span) = and-both _ (ltb (start clock d) (d .until)) t in
+      let (to-origin, purpose) = and-both _ (someBelow purposes (forPurpose d)) to-purpose in
+      let (own, origin) = and-both _ (someBelow origins (fromOrigin d)) to-origin in
+      record {
+        own = own;
+        origin = origin;
+        purpose = purpose;
+        span = ltb-true (start clock d) (d .until) span;
+      }
+
+  pub found-for-make : FoundFor c patient clock d n → breaksForFound c patient clock d (Person n) ≡ true
+  found-for-make h = rw (h .own, h .origin, h .purpose) (lt-ltb (start clock d) (d .until) (h .span))
+
+  -- where the other dimensions pass, the records tell
+  pub found-for-own :
+      (b : Bool) → b ≡ someOf (length (c .records)) (selects (c .records) d) (hasBaseline c patient n) →
+      someBelow origins (fromOrigin d) ≡ true → someBelow purposes (forPurpose d) ≡ true → start clock d < d .until →
+      b ≡ breaksForFound c patient clock d (Person n)
+  found-for-own b e origin purpose span =
+      same-test b (breaksForFound c patient clock d (Person n))
+      (λ t. found-for-make (record { own = sym e ∙ t; origin = origin; purpose = purpose; span = span }))
+      (λ t. e ∙ found-for-read t .own)
 
 module _ (c : Contents) (patient : ℕ) where
   has-baseline-make :
@@ -107,13 +140,11 @@ module _ (c : Contents) (patient : ℕ) where
       unfolding breaksBaselineFound
       baseline-found-read =
           named-deny (breaksForFound c patient clock d) (λ n. refl) λ n deny named t.
-          let (to-purpose, span) = and-both _ (ltb (start clock d) (d .until)) t in
-          let (to-origin, purpose) = and-both _ (someBelow purposes (forPurpose d)) to-purpose in
-          let (own, origin) = and-both _ (someBelow origins (fromOrigin d)) to-origin in
-          let (x, hx, baseline) = some-of _ _ .read _ own in
-          let (o, ho, from-o) = some-below origins .read _ origin in
-          let (u, hu, for-u) = some-below purposes .read _ purpose in
-          let left = ltb-true (start clock d) (d .until) span in
+          let found = found-for-read c patient clock d n t in
+          let (x, hx, baseline) = some-of _ _ .read _ (found .own) in
+          let (o, ho, from-o) = some-below origins .read _ (found .origin) in
+          let (u, hu, for-u) = some-below purposes .read _ (found .purpose) in
+          let left = found .span in
           let q = request n 0 o x u (start clock d) in
           record {
             deny = deny;
@@ -142,13 +173,13 @@ module _ (c : Contents) (patient : ℕ) where
         let a = matches-read c d q (h .matched) in
         ap₂ _&&_ (ap not (h .deny))
         (ap (breaksForFound c patient clock d) (h .named)
-        ∙ rw (
-          some-of (length (c .records)) (selects (c .records) d) .make (hasBaseline c patient (h .person)) (q .«record»)
-              (i .record-in, a .selected) (has-baseline-make (h .person) (q .«record») (h .baseline)),
-          some-below origins .make (fromOrigin d) (q .origin) (i .origin-in) (a .origin),
-          some-below purposes .make (forPurpose d) (q .purpose) (i .purpose-in) (a .purpose),
-        )
-        (lt-ltb (start clock d) (d .until) (omega arith)))
+        ∙ found-for-make c patient clock d (h .person)
+        (record {
+          own = some-of _ _ .make _ (q .«record») (i .record-in, a .selected) (has-baseline-make (h .person) (q .«record») (h .baseline));
+          origin = some-below origins .make _ (q .origin) (i .origin-in) (a .origin);
+          purpose = some-below purposes .make _ (q .purpose) (i .purpose-in) (a .purpose);
+          span = omega arith;
+        }))
 
   -- what breaks the baseline from a later minute on breaks it from an earlier on
   pub baseline-later :

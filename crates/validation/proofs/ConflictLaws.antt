@@ -20,7 +20,7 @@ use Rattle.directive.specs.Matching.{subjectCovers, matches}
 use Rattle.directive.proofs.MatchLaws.{matches-read, matches-make}
 use Rattle.validation.specs.Requests.{persons, origins, purposes, request, InRange}
 use Rattle.validation.specs.Meaning.{sameEffect, conflict}
-use Rattle.validation.specs.Search.{fromOrigin, forPurpose, start, subjectsMeet, overlap, SubjectIn, Fit}
+use Rattle.validation.specs.Search.{fromOrigin, forPurpose, start, subjectsMeet, overlap, conflictFound, SubjectIn, Fit}
 use Rattle.validation.proofs.Requests.{some-request, in-range-earlier}
 
 -- a request that both match
@@ -30,12 +30,48 @@ pub record Common (c : Contents) (clock : ℕ) (d e : Directive) : Type 0 where
   pub by-first : matches c d common ≡ true
   pub by-second : matches c e common ≡ true
 
+-- what the search finds, one dimension at a time
+pub record Found (c : Contents) (clock : ℕ) (d e : Directive) : Type 0 where
+  pub opposite : sameEffect d e ≡ false
+  pub subject : subjectsMeet c (d .subject) (e .subject) ≡ true
+  pub origin : someOf origins (fromOrigin d) (fromOrigin e) ≡ true
+  pub selected : someOf (length (c .records)) (selects (c .records) d) (selects (c .records) e) ≡ true
+  pub purpose : someOf purposes (forPurpose d) (forPurpose e) ≡ true
+  pub span : max (start clock d) (start clock e) < min (d .until) (e .until)
+
+module _ (c : Contents) (clock : ℕ) (d e : Directive) where
+  pub found-read : conflictFound c clock d e ≡ true → Found c clock d e
+  unfolding conflictFound overlap
+  found-read t =
+      let (opposite, found) = and-both (not (sameEffect d e)) _ t in
+      let m = max (start clock d) (start clock e) in
+      let (to-purpose, span) = and-both _ (ltb m (min (d .until) (e .until))) found in
+      let (to-record, purpose) = and-both _ (someOf purposes (forPurpose d) (forPurpose e)) to-purpose in
+      let (to-origin, selected) =
+      and-both _ (someOf (length (c .records)) (selects (c .records) d) (selects (c .records) e)) to-record
+      in
+      let (subject, origin) = and-both _ (someOf origins (fromOrigin d) (fromOrigin e)) to-origin in
+      record {
+        opposite = not-true (sameEffect d e) opposite;
+        subject = subject;
+        origin = origin;
+        selected = selected;
+        purpose = purpose;
+        span = ltb-true m (min (d .until) (e .until)) span;
+      }
+
+  pub found-make : Found c clock d e → conflictFound c clock d e ≡ true
+  unfolding conflictFound overlap
+  found-make h =
+      rw (h .opposite, h .subject, h .origin, h .selected, h .purpose)
+      (lt-ltb (max (start clock d) (start clock e)) (min (d .until) (e .until)) (h .span))
+
 module _ (c : Contents) (clock : ℕ) (d e : Directive) where
   pub conflict-read : conflict c clock d e ≡ true → (sameEffect d e ≡ false) × Common c clock d e
   unfolding conflict
   conflict-read t =
-      let (opposite, some) = and-both (not (sameEffect d e)) _ t in
-      let (q, h, both) = some-request c clock .read _ some in
+      let (opposite, someIn) = and-both (not (sameEffect d e)) _ t in
+      let (q, h, both) = some-request c clock .read _ someIn in
       let (a, b) = and-both (matches c d q) _ both in
       (not-true (sameEffect d e) opposite, record { common = q; in-range = h; by-first = a; by-second = b })
 
@@ -94,23 +130,16 @@ module _ (c : Contents) (clock : ℕ) where
         let (r, h, b) = some-of _ _ .read _ e in (0, r, omega arith, h .0, h .1, b)
 
     -- what is found is a request in common, at the first minute of both
-    pub overlap-read : (d e : Directive) → Fit c d → Fit c e → overlap c clock d e ≡ true → Common c clock d e
-    unfolding overlap
-    overlap-read d e fit-d fit-e found =
+    pub found-common : (d e : Directive) → Fit c d → Fit c e → Found c clock d e → Common c clock d e
+    found-common d e fit-d fit-e found =
         let m = max (start clock d) (start clock e) in
-        let (to-purpose, span) = and-both _ (ltb m (min (d .until) (e .until))) found in
-        let (to-record, purpose) = and-both _ (someOf purposes (forPurpose d) (forPurpose e)) to-purpose in
-        let (to-origin, selected) =
-        and-both _ (someOf (length (c .records)) (selects (c .records) d) (selects (c .records) e)) to-record
-        in
-        let (subject, origin) = and-both _ (someOf origins (fromOrigin d) (fromOrigin e)) to-origin in
         let (p, r, hp, hr, s, t) =
-        meeting (d .subject) (e .subject) (fit-d .subject-in) (fit-e .subject-in) subject
+        meeting (d .subject) (e .subject) (fit-d .subject-in) (fit-e .subject-in) (found .subject)
         in
-        let (o, ho, o-e) = some-of _ _ .read _ origin in
-        let (x, hx, x-e) = some-of _ _ .read _ selected in
-        let (u, hu, u-e) = some-of _ _ .read _ purpose in
-        let left = ltb-true m (min (d .until) (e .until)) span in
+        let (o, ho, o-e) = some-of _ _ .read _ (found .origin) in
+        let (x, hx, x-e) = some-of _ _ .read _ (found .selected) in
+        let (u, hu, u-e) = some-of _ _ .read _ (found .purpose) in
+        let left = found .span in
         let q = request p r o x u m in
         record {
           common = q;
@@ -145,19 +174,18 @@ module _ (c : Contents) (clock : ℕ) where
   subjects-meet (Role n) (Role k) p r h a b =
       some-of (length (c .roles)) (covers (c .roles) n) .make (covers (c .roles) k) r (h, a) b
 
-  -- what two directives have in common is found
-  pub overlap-make : (d e : Directive) → Common c clock d e → overlap c clock d e ≡ true
-  unfolding overlap
-  overlap-make d e h =
+  -- what two directives of opposite effect have in common is found
+  pub common-found : (d e : Directive) → sameEffect d e ≡ false → Common c clock d e → Found c clock d e
+  common-found d e opposite h =
       let q = h .common in
       let i = h .in-range in
       let a = matches-read c d q (h .by-first) in
       let b = matches-read c e q (h .by-second) in
-      rw (
-        subjects-meet (d .subject) (e .subject) (q .person) (q .role) (i .role-in) (a .subject) (b .subject),
-        some-of origins (fromOrigin d) .make (fromOrigin e) (q .origin) (i .origin-in, a .origin) (b .origin),
-        some-of (length (c .records)) (selects (c .records) d) .make (selects (c .records) e) (q .«record»)
-            (i .record-in, a .selected) (b .selected),
-        some-of purposes (forPurpose d) .make (forPurpose e) (q .purpose) (i .purpose-in, a .purpose) (b .purpose),
-      )
-      (lt-ltb (max (start clock d) (start clock e)) (min (d .until) (e .until)) (omega arith))
+      record {
+        opposite = opposite;
+        subject = subjects-meet (d .subject) (e .subject) (q .person) (q .role) (i .role-in) (a .subject) (b .subject);
+        origin = some-of _ _ .make _ (q .origin) (i .origin-in, a .origin) (b .origin);
+        selected = some-of _ _ .make _ (q .«record») (i .record-in, a .selected) (b .selected);
+        purpose = some-of _ _ .make _ (q .purpose) (i .purpose-in, a .purpose) (b .purpose);
+        span = omega arith;
+      }

@@ -1,17 +1,15 @@
 -- The search is exact: it finds a conflict, a broken baseline and a redundant directive exactly where one is meant.
 use Prim.Native.Nat.{ℕ, _<_}
 use mathlib.Core.Path.{_≡_}
-use mathlib.Core.Bool.{not}
 use mathlib.Core.List.{List}
-use borrow.Author.Tests.{not-true}
 use lib.ListN.{length}
-use Rattle.sets.proofs.Quantifiers.{same-test, and-both}
+use Rattle.sets.proofs.Quantifiers.{same-test}
 use Rattle.register.specs.Register.{Contents}
 use Rattle.directive.specs.declared.Directive.{Directive}
 use Rattle.validation.specs.Requests.{persons}
-use Rattle.validation.specs.Meaning.{sameEffect, conflict, breaksBaseline, redundant}
+use Rattle.validation.specs.Meaning.{conflict, breaksBaseline, redundant}
 use Rattle.validation.specs.Search.{conflictFound, breaksBaselineFound, redundantFound, Fit}
-use Rattle.validation.proofs.ConflictLaws.{conflict-read, conflict-make, overlap-read, overlap-make}
+use Rattle.validation.proofs.ConflictLaws.{conflict-read, conflict-make, found-read, found-make, found-common, common-found}
 use Rattle.validation.proofs.BaselineLaws.{baseline-read, baseline-make, baseline-found-read, baseline-found-make}
 use Rattle.validation.proofs.RedundantLaws.{redundant-read, redundant-make, redundant-found-read, redundant-found-make}
 
@@ -19,13 +17,13 @@ use Rattle.validation.proofs.RedundantLaws.{redundant-read, redundant-m
 pub conflict-exact :
     (c : Contents) (clock : ℕ) → 0 < length (c .roles) → (d e : Directive) → Fit c d → Fit c e →
     conflict c clock d e ≡ conflictFound c clock d e
-unfolding conflictFound
 conflict-exact c clock a-role d e fit-d fit-e =
     same-test (conflict c clock d e) (conflictFound c clock d e)
-    (λ t. let (opposite, h) = conflict-read c clock d e t in rw (opposite, overlap-make c clock d e h))
     (λ t.
-    let (opposite, found) = and-both (not (sameEffect d e)) _ t in
-    conflict-make c clock d e (not-true _ opposite) (overlap-read c clock a-role d e fit-d fit-e found))
+    let (opposite, h) = conflict-read c clock d e t in found-make c clock d e (common-found c clock d e opposite h))
+    (λ t.
+    let h = found-read c clock d e t in
+    conflict-make c clock d e (h .opposite) (found-common c clock a-role d e fit-d fit-e h))
 
 -- A deny matches a request that the baseline allows exactly where one is found on the records that it selects.
 pub baseline-exact :

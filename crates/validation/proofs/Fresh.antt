@@ -8,7 +8,7 @@ use native.Mathlib.Omega.{arith}
 use borrow.Author.Tests.{eq-eqb, ne-eqb}
 use lib.ListN.{length}
 use lib.Dec.{eqb}
-use Rattle.sets.specs.Quantifiers.{some, keep}
+use Rattle.sets.specs.Quantifiers.{someIn, keep}
 use Rattle.sets.proofs.Quantifiers.{either-way, both-ways, some-list}
 use Rattle.sets.proofs.Keep.{keep-shorter, mem-keep}
 
@@ -27,4 +27,4 @@ module _ {A : Type 0} (f : A → ℕ) where
       let (k, small, free) = fresh n (keep other l) (omega (arith, keep-shorter other l a m (ap not e))) in
       (k, omega arith, λ b i g. free b (mem-keep other l b i (ap not (ne-eqb (f b) n (λ z. omega arith)))) g))
       (λ t. (n, omega arith, λ a m e. both-ways (some-list l .make is-n a m (eq-eqb (f a) n e)) t))
-      (either-way (some is-n l))
+      (either-way (someIn is-n l))

@@ -1,7 +1,10 @@
 pub mod Requests
 pub mod Fresh
-pub mod Minutes
+pub mod MinuteLaws
 pub mod ConflictLaws
 pub mod BaselineLaws
 pub mod RedundantLaws
 pub mod Exact
+pub mod MaskLaws
+pub mod TableLaws
+pub mod CoverLaws

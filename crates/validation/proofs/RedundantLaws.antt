@@ -21,7 +21,7 @@ use Rattle.validation.specs.Meaning.{sameEffect, covered, redundant}
 use Rattle.validation.specs.Search.{fromOrigin, forPurpose, start, standsFor, admits, meets, coveredAt, boundaries, redundantFound, SubjectIn, Fit}
 use Rattle.validation.proofs.Requests.{every-request, some-request, admits-read, admits-make, matches-split}
 use Rattle.validation.proofs.Fresh.{fresh}
-use Rattle.validation.proofs.Minutes.{covered-between}
+use Rattle.validation.proofs.MinuteLaws.{covered-between}
 
 module _ (c : Contents) (d : Directive) (es : List Directive) (q : Request) where
   pub covered-read :

@@ -3,3 +3,5 @@ pub mod Meaning
 pub mod Search
 pub mod Judgement
 pub mod Found
+pub mod Active
+pub mod Masks

@@ -3,7 +3,7 @@ use Prim.Native.Nat.{ℕ}
 use mathlib.Core.Bool.{Bool, false, _&&_, _||_, not, Bool·beq}
 use mathlib.Core.List.{List}
 use lib.Dec.{eqb}
-use Rattle.sets.specs.Quantifiers.{implies, some}
+use Rattle.sets.specs.Quantifiers.{implies, someIn}
 use Rattle.register.specs.Register.{Contents}
 use Rattle.register.specs.Records.{recordAt}
 use Rattle.directive.specs.declared.Subject.{Subject}
@@ -36,7 +36,7 @@ breaksBaseline c patient clock d = not (d .permit) && breaksFor c patient clock 
 
 -- one of the list, of d's effect, matches the request
 abbrev pub covered : Contents → Directive → List Directive → Request → Bool
-covered c d es q = some (λ e. sameEffect d e && matches c e q) es
+covered c d es q = someIn (λ e. sameEffect d e && matches c e q) es
 
 -- document 01: superfluous. "A draft is superfluous when every request it matches is matched by an active directive of its
 -- own effect, several together if need be; one that matches no request is superfluous too."

@@ -4,7 +4,7 @@ use mathlib.Core.Bool.{Bool, true, false, _&&_, not}
 use mathlib.Core.List.{List, _∷_, map}
 use lib.ListN.{length}
 use lib.Dec.{eqb, ltb}
-use Rattle.sets.specs.Quantifiers.{implies, someBelow, allOf, someOf, all, some}
+use Rattle.sets.specs.Quantifiers.{implies, someBelow, allOf, someOf, allIn, someIn}
 use Rattle.sets.specs.Bits.{bit}
 use Rattle.register.specs.Register.{Contents}
 use Rattle.register.specs.Roles.{covers}
@@ -77,7 +77,7 @@ meets c d x o u r e m = sameEffect d e && standsFor c (d .subject) (e .subject) 
 
 -- one of the list does so
 abbrev pub coveredAt : Contents → Directive → List Directive → ℕ → ℕ → ℕ → ℕ → ℕ → Bool
-coveredAt c d es x o u r m = some (λ e. meets c d x o u r e m) es
+coveredAt c d es x o u r m = someIn (λ e. meets c d x o u r e m) es
 
 -- the minutes looked at: the first at which the draft can match, and those at which a directive of the list ends
 abbrev pub boundaries : ℕ → Directive → List Directive → List ℕ
@@ -89,7 +89,7 @@ redundantFound c clock d es =
     allOf origins (fromOrigin d) λ o.
     allOf purposes (forPurpose d) λ u.
     allOf (length (c .roles)) (standsFor c (d .subject) (d .subject)) λ r.
-    all (λ m. implies (inMinutes (start clock d) (d .until) m) (coveredAt c d es x o u r m)) (boundaries clock d es)
+    allIn (λ m. implies (inMinutes (start clock d) (d .until) m) (coveredAt c d es x o u r m)) (boundaries clock d es)
 
 -- what the search asks of a directive: a person or role that there is, and an end that is a minute, or one past the last
 abbrev pub SubjectIn : Contents → Subject → Type 0

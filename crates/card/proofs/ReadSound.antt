@@ -1,0 +1,233 @@
+-- What a card of bytes gives is sound, and so is what was read at any field of it.
+use Prim.Native.Nat.{ℕ, zero, suc, _<_, _≤_}
+use mathlib.Core.Path.{_≡_, refl, ap}
+use mathlib.Core.Bool.{Bool, true, false, not}
+use mathlib.Core.List.{List, [], _∷_, _++_}
+use native.Mathlib.Numerals.{add-one}
+use native.Mathlib.Omega.{arith}
+use borrow.Author.Tests.{leb-true, ltb-true, lt-ltb, eqb-true, ne-eqb}
+use lib.ListN.{length, length-append, drop-of-length-le, List·getD-append}
+use lib.Seq.{getD-append-seam}
+use lib.Dec.{eqb}
+use Rattle.sets.specs.Quantifiers.{pick, allBelow, allIn, pairwise}
+use Rattle.sets.specs.Numbers.{numberAt, isBytes}
+use Rattle.sets.proofs.Quantifiers.{both-ways, and-left, and-right}
+use Rattle.sets.proofs.Ranges.{all-same}
+use Rattle.sets.proofs.Lists.{all-append, all-snoc, all-take, all-drop}
+use Rattle.sets.proofs.Numbers.{number-at-bound, bytes-are-bytes}
+use Rattle.register.specs.declared.Record.{Record}
+use Rattle.register.specs.Register.{Contents, noRecord}
+use Rattle.register.specs.Records.{recordAt}
+use Rattle.register.specs.Form.{recordOf, recordFits, recordWidths}
+use Rattle.register.proofs.FormLaws.{record-widths}
+use Rattle.directive.specs.declared.Directive.{Directive}
+use Rattle.directive.specs.Form.{everyPurpose, withPurposes}
+use Rattle.validation.specs.Judgement.{meant}
+use Rattle.ledger.specs.Model.{Model, emptyModel}
+use Rattle.ledger.specs.Answer.{done}
+use Rattle.ledger.specs.Questions.{passes}
+use Rattle.ledger.specs.Sound.{SoundRegister, stands, SoundModel}
+use Rattle.ledger.proofs.Questions.{outcome-by}
+use Rattle.ledger.proofs.Beginning.{empty-model-sound}
+use Rattle.ledger.proofs.Soundness.{sound-draft}
+use Rattle.card.specs.Grammar.{Tag, head, roles, item, directive, other, fieldTag, fieldValue}
+use Rattle.card.specs.Reading.{Progress, nothingRead, isEmpty, lastEdition, hasPlace, valueQuestions, fieldQuestions, withRegister, withField, cardQuestions, contentOf, reading}
+use Rattle.card.proofs.Step.{next}
+use Rattle.card.proofs.Fields.{value-bytes, after-bytes}
+use Rattle.card.proofs.Accepted.{Accepted, ended, one-more, passed-of, accepted-of}
+
+-- What was read so far is sound and has no tokens. Before the head nothing was read, and the edition is at most 2.
+pub record SoundSoFar (p : Progress) : Type 0 where
+  pub model : SoundModel (p .model)
+  pub no-tokens : p .model .tokens ≡ []
+  pub before-head : p .edition ≡ 0 → p .model ≡ emptyModel
+  pub edition-most : p .edition ≤ lastEdition
+
+pub nothing-sound : SoundSoFar nothingRead
+nothing-sound =
+    record { model = empty-model-sound; no-tokens = refl; before-head = λ _. refl; edition-most = omega arith }
+
+-- a list that is empty, and one that is not
+pub none-in : {A : Type 0} (l : List A) → length l ≡ 0 → l ≡ []
+none-in l e = drop-of-length-le l {i = 0} (omega arith)
+
+pub some-in : {A : Type 0} (l : List A) → not (isEmpty l) ≡ true → 0 < length l
+some-in [] e = both-ways e refl
+some-in (x ∷ l) e = omega arith
+
+pub filled : {A : Type 0} (l : List A) → 0 < length l → isEmpty l ≡ false
+filled l h = ne-eqb (length l) 0 (λ z. omega arith)
+
+-- there are no records without roles, and no directive stands without records
+pub no-records : (c : Contents) → SoundRegister c → length (c .roles) ≡ 0 → c .records ≡ []
+no-records c h e = none-in (c .records) (by (length (c .records)) (h .roles-with-records))
+  where
+    by : (n : ℕ) → (0 < n → 0 < length (c .roles)) → n ≡ 0
+    by zero f = refl
+    by (suc n) f = absurd (omega (arith, f (omega arith)))
+
+none-stand : (m : Model) (ds : List Directive) → allIn (stands m) ds ≡ true → length (m .register .records) ≡ 0 → ds ≡ []
+unfolding allIn
+none-stand m [] e z = refl
+none-stand m (d ∷ ds) e z =
+    absurd (omega (arith, ltb-true (d .«record») (length (m .register .records)) (search (and-left, and-right))))
+
+pub no-directives : (m : Model) → SoundModel m → length (m .register .roles) ≡ 0 → m .active ≡ []
+no-directives m h e =
+    none-stand m (m .active) (h .active-stand) (ap length (no-records (m .register) (h .register) e))
+
+-- one record more
+records-fit-more :
+    (rs : List Record) (r : Record) → allBelow (length rs) (λ x. recordFits x (recordAt rs x)) ≡ true →
+    recordFits (length rs) r ≡ true →
+    allBelow (length (rs ++ (r ∷ []))) (λ x. recordFits x (recordAt (rs ++ (r ∷ [])) x)) ≡ true
+unfolding allBelow
+records-fit-more rs r e fits =
+    let more = rs ++ (r ∷ []) in
+    let before =
+    all-same (λ x. recordFits x (recordAt rs x)) (λ x. recordFits x (recordAt more x)) (length rs)
+    (λ x h. rw (List·getD-append rs (r ∷ []) noRecord x h))
+    in
+    rw (length-append, add-one, getD-append-seam rs r [] noRecord, fits, ← before, e)
+
+-- the 25 bytes that a directive's value stands for are bytes
+draft-bytes : (v : List ℕ) → isBytes v ≡ true → (first : Bool) → isBytes (pick first (withPurposes v) v) ≡ true
+unfolding withPurposes
+draft-bytes v e true = simp (all-append, all-take _ 15 v e, bytes-are-bytes 2 everyPurpose, all-drop _ 15 v e)
+draft-bytes v e false = e
+
+module _ (p : Progress) (h : SoundSoFar p) where
+  -- what is there was read after the head
+  begun : (f : Model → ℕ) → f emptyModel ≡ 0 → 0 < f (p .model) → 0 < p .edition
+  begun f none someIn = after (p .edition) (λ z. omega (arith, ap f (h .before-head z)))
+    where
+      after : (n : ℕ) → (n ≡ 0 → ⊥) → 0 < n
+      after n unread = omega arith
+
+  pub edition-read :
+      (t : Tag) (v : List ℕ) → hasPlace p t (length v) ≡ true → passes (valueQuestions meant p t v) ≡ true →
+      0 < withField p t v .edition
+  unfolding allIn
+  edition-read head v placed passed = leb-true 1 (numberAt 0 1 v) (search (and-left, and-right))
+  edition-read roles v placed passed = ltb-true 0 (p .edition) (search (and-left, and-right))
+  edition-read item v placed passed =
+      begun (λ m. length (m .register .roles)) refl (some-in (p .model .register .roles) (search (and-left, and-right)))
+  edition-read directive v placed passed =
+      begun (λ m. length (m .register .records)) refl (some-in (p .model .register .records) (search and-left))
+  edition-read other v placed passed = both-ways placed refl
+
+  -- another register, where there are no directives yet
+  register-model : (c : Contents) → SoundRegister c → p .model .active ≡ [] → SoundModel (withRegister p c .model)
+  unfolding allIn pairwise
+  register-model c sound none =
+      record {
+        patient-in = h .model .patient-in;
+        clock-in = h .model .clock-in;
+        register = sound;
+        active-few = h .model .active-few;
+        active-stand = rw none;
+        active-differ = h .model .active-differ;
+        baseline-kept = rw none;
+        no-clash = rw none;
+        tokens-few = h .model .tokens-few;
+        tokens-live = h .model .tokens-live;
+        tokens-differ = h .model .tokens-differ;
+      }
+
+  -- the model with one field more
+  sound-model :
+      (t : Tag) (v : List ℕ) → isBytes v ≡ true → hasPlace p t (length v) ≡ true →
+      passes (valueQuestions meant p t v) ≡ true → SoundModel (withField p t v .model)
+  unfolding allIn pairwise
+  sound-model head v e placed passed =
+      record {
+        patient-in = lt-ltb _ _ (number-at-bound 1 2 v e);
+        clock-in = lt-ltb _ _ (number-at-bound 3 4 v e);
+        register = empty-model-sound .register;
+        active-few = empty-model-sound .active-few;
+        active-stand = refl;
+        active-differ = refl;
+        baseline-kept = refl;
+        no-clash = refl;
+        tokens-few = empty-model-sound .tokens-few;
+        tokens-live = refl;
+        tokens-differ = refl;
+      }
+  sound-model roles v e placed passed =
+      let register = h .model .register in
+      let empty : isEmpty (p .model .register .roles) ≡ true = search (and-left, and-right) in
+      let least = leb-true 1 (length v) (search (and-left, and-right)) in
+      register-model _
+      (record {
+        roles-few = leb-true (length v) 16 (search (and-left, and-right));
+        roles-tree = and-left _ _ passed;
+        records-few = register .records-few;
+        records-fit = register .records-fit;
+        records-wide = register .records-wide;
+        roles-with-records = λ _. least;
+      })
+      (no-directives (p .model) (h .model) (eqb-true _ 0 empty))
+  sound-model item v e placed passed =
+      let c = p .model .register in
+      let register = h .model .register in
+      let some-roles = some-in (c .roles) (search and-left) in
+      let none : isEmpty (p .model .active) ≡ true = search (and-left, and-right) in
+      let room = ltb-true (length (c .records)) 128 (search and-left) in
+      register-model _
+      (record {
+        roles-few = register .roles-few;
+        roles-tree = register .roles-tree;
+        records-few = rw length-append (omega arith);
+        records-fit = records-fit-more (c .records) (recordOf v) (register .records-fit) (search (and-left, and-right));
+        records-wide = all-snoc recordWidths (c .records) (recordOf v) (register .records-wide) (record-widths v e);
+        roles-with-records = λ _. some-roles;
+      })
+      (none-in (p .model .active) (eqb-true _ 0 none))
+  sound-model directive v e placed passed =
+      sound-draft (p .model) (h .model) _ (draft-bytes v e (eqb (p .edition) 1)) passed
+  sound-model other v e placed passed = both-ways placed refl
+
+  no-token :
+      (t : Tag) (v : List ℕ) → withField p t v .model .tokens ≡ []
+  no-token head v = refl
+  no-token roles v = h .no-tokens
+  no-token item v = h .no-tokens
+  no-token directive v = h .no-tokens
+  no-token other v = h .no-tokens
+
+  most :
+      (t : Tag) (v : List ℕ) → passes (valueQuestions meant p t v) ≡ true → withField p t v .edition ≤ lastEdition
+  unfolding allIn
+  most head v passed = leb-true (numberAt 0 1 v) lastEdition (search (and-left, and-right))
+  most roles v passed = h .edition-most
+  most item v passed = h .edition-most
+  most directive v passed = h .edition-most
+  most other v passed = h .edition-most
+
+  pub sound-field :
+      (s : List ℕ) → isBytes s ≡ true → passes (fieldQuestions meant p s) ≡ true → SoundSoFar (next p s)
+  sound-field s e passed =
+      let t = fieldTag s in
+      let v = fieldValue s in
+      let now = passed-of p s passed in
+      let read = edition-read t v (now .placed) (now .answered) in
+      record {
+        model = sound-model t v (value-bytes s e) (now .placed) (now .answered);
+        no-tokens = no-token t v;
+        before-head = λ z. absurd (omega arith);
+        edition-most = most t v (now .answered);
+      }
+
+sound-rest : {p q : Progress} {s : List ℕ} → Accepted p s q → SoundSoFar p → isBytes s ≡ true → SoundSoFar q
+sound-rest (ended e) h b = h
+sound-rest (one-more p s e rest) h b = sound-rest rest (sound-field p h s b e) (after-bytes s b)
+
+pub content-sound : (s : List ℕ) → isBytes s ≡ true → passes (cardQuestions s) ≡ true → SoundSoFar (contentOf s)
+content-sound s b e = sound-rest (accepted-of nothingRead s e) nothing-sound b
+
+pub reading-sound : (s : List ℕ) → isBytes s ≡ true → SoundModel (reading s .model)
+reading-sound s b =
+    outcome-by (λ o. SoundModel (o .model)) (cardQuestions s) emptyModel
+    (record { answer = done []; model = contentOf s .model })
+    (λ e. content-sound s b e .model)
+    (λ _ _. empty-model-sound)

@@ -1,0 +1,116 @@
+-- The bytes of a written card: how many there are, and that they are bytes.
+use Prim.Native.Nat.{ℕ, zero, suc, _+_, _*_, _<_, _≤_}
+use mathlib.Core.Path.{_≡_, refl, _∙_}
+use mathlib.Core.Bool.{true}
+use mathlib.Core.List.{List, [], _∷_, _++_, append-assoc, append-nil}
+use native.Mathlib.Omega.{arith}
+use borrow.Author.Tests.{ltb-true, lt-ltb, eqb-true}
+use lib.ListN.{length, length-append}
+use lib.Dec.{ltb}
+use Rattle.sets.specs.Quantifiers.{allIn}
+use Rattle.sets.specs.Numbers.{isBytes}
+use Rattle.sets.proofs.Quantifiers.{every-below}
+use Rattle.sets.proofs.Lists.{all-append, all-places}
+use Rattle.sets.proofs.Numbers.{length-bytes, bytes-are-bytes}
+use Rattle.register.specs.Tree.{parentOf, parentFits, isTree}
+use Rattle.register.specs.Form.{recordBytes}
+use Rattle.register.proofs.FormLaws.{length-record, record-are-bytes}
+use Rattle.directive.specs.Form.{directiveBytes}
+use Rattle.directive.proofs.FormLaws.{length-directive, directive-are-bytes}
+use Rattle.ledger.specs.Model.{Model}
+use Rattle.ledger.specs.Sound.{SoundModel}
+use Rattle.card.specs.Grammar.{field}
+use Rattle.card.specs.Reading.{headSize}
+use Rattle.card.specs.Writing.{headBytes, recordFields, directiveFields, cardBytes}
+use Rattle.card.proofs.Fields.{length-field}
+
+field-bytes : (tag : ℕ) (v : List ℕ) → tag < 256 → isBytes v ≡ true → isBytes (field tag v) ≡ true
+unfolding allIn
+field-bytes tag v small e = rw (lt-ltb tag 256 small, all-append, bytes-are-bytes, e)
+
+-- one field for each of a list
+pub record OneEach {A : Type 0} (fields : List A → List ℕ) (oneIf : A → List ℕ) : Type 0 where
+  pub none : fields [] ≡ []
+  pub more : (a : A) (l : List A) → fields (a ∷ l) ≡ oneIf a ++ fields l
+
+pub one-a-record : OneEach recordFields (λ r. field 0x03 (recordBytes r))
+unfolding recordFields
+one-a-record = record { none = refl; more = λ r rs. refl }
+
+pub one-a-directive : OneEach directiveFields (λ d. field 0x04 (directiveBytes d))
+unfolding directiveFields
+one-a-directive = record { none = refl; more = λ d ds. refl }
+
+module _ {A : Type 0} {fields : List A → List ℕ} {oneIf : A → List ℕ} (each : OneEach fields oneIf) where
+  pub fields-snoc : (l : List A) (a : A) → fields (l ++ (a ∷ [])) ≡ fields l ++ oneIf a
+  fields-snoc [] a = rw (each .more, each .none, append-nil)
+  fields-snoc (x ∷ l) a = rw (each .more x (l ++ (a ∷ [])), each .more x l, fields-snoc l a, append-assoc)
+
+  fields-length : (n : ℕ) → ((a : A) → length (oneIf a) ≡ n) → (l : List A) → length (fields l) ≡ n * length l
+  fields-length n f [] = rw (each .none) (omega arith)
+  fields-length n f (a ∷ l) = rw (each .more, length-append, f a, fields-length n f l) (omega arith)
+
+  fields-bytes : ((a : A) → isBytes (oneIf a) ≡ true) → (l : List A) → isBytes (fields l) ≡ true
+  unfolding allIn
+  fields-bytes f [] = rw (each .none)
+  fields-bytes f (a ∷ l) = rw (each .more, all-append, f a, fields-bytes f l)
+
+-- a role's parent is a byte
+parent-byte : (q p : ℕ) → parentFits q p ≡ true → q < 256 → p < 256
+parent-byte zero p e h = omega (arith, eqb-true p 0 e)
+parent-byte (suc q) p e h = omega (arith, ltb-true p (suc q) e)
+
+roles-bytes : (ps : List ℕ) → isTree ps ≡ true → length ps ≤ 256 → isBytes ps ≡ true
+unfolding isTree
+roles-bytes ps tree few =
+    all-places (λ b. ltb b 256) 0 ps λ q h.
+    lt-ltb (parentOf ps q) 256
+    (parent-byte q (parentOf ps q) (every-below (length ps) .read _ tree q h) (omega arith))
+
+pub length-head : (m : Model) → length (headBytes m) ≡ headSize
+length-head m = simp (length-append, length-bytes)
+
+module _ (m : Model) where
+  pub length-card :
+      length (cardBytes m)
+      ≡ 10 + (3 + length (m .register .roles)) + 13 * length (m .register .records) + 28 * length (m .active)
+  unfolding cardBytes
+  length-card =
+      let start = field 0x01 (headBytes m) in
+      let ps = field 0x02 (m .register .roles) in
+      let items = recordFields (m .register .records) in
+      omega (
+        arith,
+        length-append (start ++ ps ++ items) (directiveFields (m .active)),
+        length-append (start ++ ps) items,
+        length-append start ps,
+        length-field 0x01 (headBytes m),
+        length-head m,
+        length-field 0x02 (m .register .roles),
+        fields-length one-a-record 13 (λ r. length-field 0x03 (recordBytes r) ∙ rw (length-record r)) (m .register .records),
+        fields-length one-a-directive 28 (λ d. length-field 0x04 (directiveBytes d) ∙ rw (length-directive d)) (m .active),
+      )
+
+  module _ (h : SoundModel m) where
+    pub longest-card : length (cardBytes m) ≤ 2589
+    longest-card = omega (arith, length-card)
+
+    pub card-are-bytes : isBytes (cardBytes m) ≡ true
+    unfolding cardBytes
+    card-are-bytes =
+        let start = field 0x01 (headBytes m) in
+        let ps = field 0x02 (m .register .roles) in
+        let items = recordFields (m .register .records) in
+        let few = h .register .roles-few in
+        rw (
+          all-append _ (start ++ ps ++ items) (directiveFields (m .active)),
+          all-append _ (start ++ ps) items,
+          all-append _ start ps,
+          field-bytes 0x01 (headBytes m) (omega arith) (simp (all-append, bytes-are-bytes)),
+          field-bytes 0x02 (m .register .roles) (omega arith)
+              (roles-bytes (m .register .roles) (h .register .roles-tree) (omega arith)),
+          fields-bytes one-a-record (λ r. field-bytes 0x03 (recordBytes r) (omega arith) (record-are-bytes r))
+              (m .register .records),
+          fields-bytes one-a-directive (λ d. field-bytes 0x04 (directiveBytes d) (omega arith) (directive-are-bytes d))
+              (m .active),
+        )

@@ -1,0 +1,142 @@
+// The ledger's calls: each takes a ledger by value and gives its answer, with the ledger after it where it can change.
+use crate::Ledger;
+use crate::Token;
+use crate::answer::AdvanceAnswer;
+use crate::answer::AdvanceResult;
+use crate::answer::BriefAnswer;
+use crate::answer::IssueAnswer;
+use crate::answer::IssueResult;
+use crate::answer::RevokeAnswer;
+use crate::answer::RevokeResult;
+use crate::lists::Found;
+ghost use Rattle.ledger.specs.Promises.{Revokes, Advances, Issues, Briefs};
+
+// Takes the directive of that number out of the active list; the rest keep their order.
+pub fn revoke(l: Ledger, number: u16) -> RevokeResult
+    ensures { λ r. ⌜ Revokes l number r ⌝ }
+{
+    let n = crate::lists::held(l.active_count, 32);
+    let active = l.active;
+    if !crate::lists::is_active(active, n, number) {
+        return RevokeResult {
+            answer: RevokeAnswer::NotActive,
+            ledger: l,
+        };
+    }
+    let rest = crate::lists::without_number(active, n, number);
+    let mut next = l;
+    let items = rest.items;
+    next.active = items;
+    next.active_count = rest.count;
+    RevokeResult {
+        answer: RevokeAnswer::Revoked,
+        ledger: next,
+    }
+}
+
+// Sets the clock, and drops the directives and the tokens that have ended.
+pub fn advance(l: Ledger, minute: u32) -> AdvanceResult
+    ensures { λ r. ⌜ Advances l minute r ⌝ }
+{
+    if minute < l.clock {
+        return AdvanceResult {
+            answer: AdvanceAnswer::BeforeClock,
+            ledger: l,
+        };
+    }
+    let n = crate::lists::held(l.active_count, 32);
+    let active = l.active;
+    let directives = crate::lists::unexpired(active, n, minute);
+    let m = crate::lists::held(l.token_count, 4);
+    let held = l.tokens;
+    let tokens = crate::lists::live(held, m, minute);
+    let mut next = l;
+    next.clock = minute;
+    let kept = directives.items;
+    next.active = kept;
+    next.active_count = directives.count;
+    let left = tokens.items;
+    next.tokens = left;
+    next.token_count = tokens.count;
+    AdvanceResult {
+        answer: AdvanceAnswer::Advanced {
+            directives: n - directives.count,
+            tokens: m - tokens.count,
+        },
+        ledger: next,
+    }
+}
+
+// Puts a token last.
+pub fn issue(l: Ledger, number: u16, person: u16, states: u8, minutes: u32) -> IssueResult
+    ensures { λ r. ⌜ Issues l number person states minutes r ⌝ }
+{
+    if states == 0 {
+        return IssueResult {
+            answer: IssueAnswer::NoState,
+            ledger: l,
+        };
+    }
+    if minutes < 1 {
+        return IssueResult {
+            answer: IssueAnswer::WrongMinutes,
+            ledger: l,
+        };
+    }
+    if 240 < minutes {
+        return IssueResult {
+            answer: IssueAnswer::WrongMinutes,
+            ledger: l,
+        };
+    }
+    if 4294967295 - minutes < l.clock {
+        return IssueResult {
+            answer: IssueAnswer::WrongMinutes,
+            ledger: l,
+        };
+    }
+    let n = crate::lists::held(l.token_count, 4);
+    let tokens = l.tokens;
+    if crate::lists::is_issued(tokens, n, number) {
+        return IssueResult {
+            answer: IssueAnswer::NumberTaken,
+            ledger: l,
+        };
+    }
+    if 4 <= n {
+        return IssueResult {
+            answer: IssueAnswer::TokensFull,
+            ledger: l,
+        };
+    }
+    let t = Token {
+        number: number,
+        person: person,
+        states: states,
+        until: l.clock + minutes,
+    };
+    let mut next = l;
+    next.tokens[n] = t;
+    next.token_count = n + 1;
+    IssueResult {
+        answer: IssueAnswer::Issued,
+        ledger: next,
+    }
+}
+
+// The brief of the token of that number for that person.
+pub fn brief(l: Ledger, number: u16, person: u16) -> BriefAnswer
+    ensures { λ a. ⌜ Briefs l number person a ⌝ }
+{
+    let n = crate::lists::held(l.token_count, 4);
+    let tokens = l.tokens;
+    let found = crate::lists::token_states(tokens, n, number, person);
+    match found {
+        Found::States(states) => {
+            let g = l.register;
+            let b = crate::emergency::brief_over(g, states);
+            BriefAnswer::Disclosed(b)
+        }
+        Found::Nothing => BriefAnswer::NoToken,
+    }
+}

@@ -1,0 +1,61 @@
+// Roles: which roles a role covers.
+ghost use mathlib.Core.Path.{_≡_};
+ghost use mathlib.Core.Bool.{_&&_};
+ghost use Prim.Native.Nat.{ℕ, _<_};
+ghost use lib.ListN.{length, take};
+ghost use lib.Dec.{ltb};
+ghost use Rattle.sets.specs.Bits.{setOf};
+ghost use Rattle.register.specs.Roles.{covers};
+ghost use Rattle.register.specs.Tree.{isTree};
+
+fn wide(b: u8) -> u16
+    ensures { λ r. ⌜ (r ≡ b) × (r < 256) ⌝ }
+{
+    b as u16
+}
+
+// How many roles there are, of whose parents the first `count` count.
+fn size(parents: &[u8], count: usize) -> usize
+    ensures { λ n. ⌜ n ≡ length (take count (now (parents .entry))) ⌝ }
+{
+    if count < parents.len() {
+        return count;
+    }
+    parents.len()
+}
+
+// Whether role r is q or stands above q on the way to role 0, among the first `count` roles by their parents.
+pub fn covers(parents: &[u8; 16], count: usize, r: u16, q: u16) -> bool
+    ensures { λ b. ⌜ b ≡ covers (take count (now (parents .entry))) r q ⌝ }
+{
+    if r == q {
+        return true;
+    }
+    let at = q as usize;
+    if size(parents, count) <= at {
+        return r == 0;
+    }
+    let p = wide(parents[at]);
+    if p < q {
+        covers(parents, count, r, p)
+    } else {
+        false
+    }
+}
+
+// The roles that role r covers, as a set.
+pub fn covered_set(parents: &[u8; 16], count: usize, r: u16) -> u16
+    ensures { λ s. ⌜ s ≡ setOf 16 (λ q. ltb q (length (take count (now (parents .entry)))) && covers (take count (now (parents .entry))) r q) ⌝ }
+{
+    let n = size(parents, count);
+    let mut set: u16 = 0;
+    for q in 0..16u16 {
+        if n <= q as usize {
+            return set;
+        }
+        if covers(parents, count, r, q) {
+            set = set + (1 << q);
+        }
+    }
+    set
+}

@@ -1,0 +1,106 @@
+// Conflict: two directives of opposite effect that match a request in common.
+use directive::Directive;
+use directive::Subject;
+use directive::lowest::Best;
+use register::Register;
+use sets::words::Words;
+ghost use mathlib.Core.Path.{_≡_};
+ghost use Prim.Native.Nat.{_<_};
+ghost use lib.ListN.{length, take};
+ghost use Rattle.sets.specs.Quantifiers.{someOf, keep};
+ghost use Rattle.sets.specs.Words.{wordsOf};
+ghost use Rattle.register.specs.Register.{contents};
+ghost use Rattle.register.specs.Roles.{covers};
+ghost use Rattle.directive.specs.Selection.{selects};
+ghost use Rattle.directive.specs.Lowest.{bestOf};
+ghost use Rattle.validation.specs.Meaning.{conflict};
+ghost use Rattle.validation.specs.Search.{subjectsMeet, conflictFound, Fit};
+ghost use Rattle.validation.specs.Active.{AllFit};
+
+// Whether some person in some role is covered by both subjects.
+pub fn subjects_meet(g: Register, s: Subject, t: Subject) -> bool
+    ensures { λ b. ⌜ b ≡ subjectsMeet (contents g) s t ⌝ }
+{
+    match s {
+        Subject::Person(n) => match t {
+            Subject::Person(k) => n == k,
+            Subject::Role(_) => true,
+        },
+        Subject::Role(n) => match t {
+            Subject::Person(_) => true,
+            Subject::Role(k) => roles_meet(g, n, k),
+        },
+    }
+}
+
+// Whether some role is covered by both.
+fn roles_meet(g: Register, n: u16, k: u16) -> bool
+    ensures { λ b. ⌜ b ≡ someOf (length (contents g .roles)) (covers (contents g .roles) n) (covers (contents g .roles) k) ⌝ }
+{
+    let parents = g.roles;
+    let count = g.role_count;
+    let a = register::roles::covered_set(&parents, count, n);
+    let b = register::roles::covered_set(&parents, count, k);
+    sets::bits::meet(a, b)
+}
+
+// Whether d, which selects `chosen`, and e are of opposite effect and overlap in each dimension.
+pub fn conflicts_over(g: Register, clock: u32, d: Directive, chosen: Words, e: Directive) -> bool
+    requires { ⌜ chosen ≡ wordsOf (selects (contents g .records) d) ⌝ }
+    ensures { λ b. ⌜ b ≡ conflictFound (contents g) clock d e ⌝ }
+{
+    if d.permit == e.permit {
+        return false;
+    }
+    let from = crate::minutes::latest(
+        crate::minutes::start(clock, d),
+        crate::minutes::start(clock, e),
+    );
+    let until = crate::minutes::earliest(d.until, e.until);
+    if until <= from {
+        return false;
+    }
+    if !sets::bits::meet(d.subject_origins, e.subject_origins) {
+        return false;
+    }
+    if !sets::bits::meet(d.purposes % 2048, e.purposes) {
+        return false;
+    }
+    let s = d.subject;
+    let t = e.subject;
+    if !subjects_meet(g, s, t) {
+        return false;
+    }
+    sets::words::overlap(chosen, directive::selection::selected(g, e))
+}
+
+// Whether some request from the clock on is matched by both, which are of opposite effect.
+pub fn conflicts(g: Register, clock: u32, d: Directive, e: Directive) -> bool
+    ensures { λ b. ⌜ b ≡ conflictFound (contents g) clock d e ⌝ }
+    ensures { λ b. ⌜ (0 < length (contents g .roles) → Fit (contents g) d → Fit (contents g) e → b ≡ conflict (contents g) clock d e) ⌝ }
+{
+    conflicts_over(g, clock, d, directive::selection::selected(g, d), e)
+}
+
+// The lowest number among those of the first n active directives that d conflicts with.
+pub fn lowest_conflict(
+    g: Register,
+    clock: u32,
+    d: Directive,
+    active: [Directive; 32],
+    n: usize,
+) -> Best
+    ensures { λ r. ⌜ r ≡ bestOf (keep (conflictFound (contents g) clock d) (take n active)) ⌝ }
+    ensures { λ r. ⌜ (0 < length (contents g .roles) → Fit (contents g) d → AllFit (contents g) (take n active) → r ≡ bestOf (keep (conflict (contents g) clock d) (take n active))) ⌝ }
+{
+    let chosen = directive::selection::selected(g, d);
+    let mut best = directive::lowest::nothing();
+    for i in 0..32usize {
+        if n <= i {
+            return best;
+        }
+        let e = active[i];
+        best = directive::lowest::lower_where(best, e, conflicts_over(g, clock, d, chosen, e));
+    }
+    best
+}
