@@ -6,7 +6,6 @@ ghost use lib.ListN.{length, take};
 ghost use lib.Dec.{ltb};
 ghost use Rattle.sets.specs.Bits.{setOf};
 ghost use Rattle.register.specs.Roles.{covers};
-ghost use Rattle.register.specs.Tree.{isTree};
 
 fn wide(b: u8) -> u16
     ensures { λ r. ⌜ (r ≡ b) × (r < 256) ⌝ }
