@@ -27,7 +27,8 @@ pub mod card;
 
 pub mod refusal;
 
-// The programs: cards, replays, and the comparison on generated ones.
+// The programs: cards, replays, the comparison on generated ones, and the
+// inputs of the benchmark.
 
 pub mod cardcheck;
 
@@ -40,6 +41,8 @@ pub mod generate;
 pub mod compare;
 
 pub mod counts;
+
+pub mod bench;
 
 // What they share.
 

@@ -16,6 +16,7 @@ use std::io::{self, BufWriter, Read, Write};
 use std::path::Path;
 use std::process::ExitCode;
 
+use checker::bench::measures;
 use checker::cardcheck::cardcheck;
 use checker::compare::{answers, Program, Programs};
 use checker::counts::Counts;
@@ -27,9 +28,11 @@ const USAGE: &str = "usage:
   checker replay < REPLAY
   checker generate --seed S --cards N --replays N [--out DIR]
   checker compare --seed S --cards N --replays N --cardcheck PROGRAM --replay PROGRAM [--out DIR]
+  checker bench DIR
 ";
 
-/// Something of the table is missing, or a program gave another line.
+/// Something of the table is missing, a program gave another line, or an input
+/// of the benchmark is not answered as meant.
 const FOUND: u8 = 1;
 /// The arguments or a file could not be used.
 const FAILED: u8 = 2;
@@ -65,6 +68,9 @@ fn run(arguments: &[String]) -> io::Result<ExitCode> {
         }
         Some((command, rest)) if command == "compare" => {
             compare(&Options::new(rest, COMPARE_OPTIONS)?, &mut output)?
+        }
+        Some((command, [directory])) if command == "bench" => {
+            bench(Path::new(directory), &mut output)?
         }
         _ => return Err(usage()),
     };
@@ -174,5 +180,20 @@ fn compare(options: &Options, output: &mut impl Write) -> io::Result<ExitCode> {
     }
     write!(output, "{counts}")?;
     writeln!(output, "{cards} cards and {replays} replays, 0 different")?;
+    Ok(ExitCode::SUCCESS)
+}
+
+/// Stores the inputs of the benchmark and prints a line for each operation:
+/// its name, its kind of input, and how often it is counted and timed.
+fn bench(directory: &Path, output: &mut impl Write) -> io::Result<ExitCode> {
+    fs::create_dir_all(directory)?;
+    for measure in measures() {
+        if let Err(wrong) = measure.check() {
+            eprintln!("checker: {wrong}");
+            return Ok(ExitCode::from(FOUND));
+        }
+        measure.write_into(directory)?;
+        writeln!(output, "{}", measure.line())?;
+    }
     Ok(ExitCode::SUCCESS)
 }

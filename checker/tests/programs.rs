@@ -266,3 +266,25 @@ fn wrong_arguments() {
         assert_eq!(text(&output.stdout), "");
     }
 }
+
+#[test]
+fn bench_stores_its_inputs() {
+    let path = directory("bench");
+    let name = path.to_str().expect("the path is text");
+    let output = run(&["bench", name], &[]);
+    assert!(output.status.success());
+    let list = text(&output.stdout);
+    assert_eq!(list.lines().count(), 8);
+    for line in list.lines() {
+        let words: Vec<&str> = line.split(' ').collect();
+        let [name, kind, count, timed] = words[..] else {
+            panic!("{line}");
+        };
+        assert_ne!(count, "0");
+        for (part, there) in [("base", true), ("with", true), ("timed", timed != "0")] {
+            let file = path.join(format!("{name}.{part}.{kind}"));
+            assert_eq!(file.exists(), there, "{}", file.display());
+        }
+    }
+    assert_eq!(run(&["bench"], &[]).status.code(), Some(2));
+}

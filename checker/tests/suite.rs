@@ -1,6 +1,7 @@
 //! The tests of the checker, as one program.
 
 mod balance;
+mod bench;
 mod cases;
 mod definition;
 mod enumeration;

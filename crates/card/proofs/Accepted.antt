@@ -7,9 +7,9 @@ use native.Mathlib.Omega.{arith}
 use lib.ListN.{length}
 use Rattle.sets.specs.Quantifiers.{allIn}
 use Rattle.sets.proofs.Quantifiers.{and-both}
-use Rattle.validation.specs.Judgement.{meant}
-use Rattle.ledger.specs.Questions.{passes}
-use Rattle.ledger.proofs.Questions.{passes-append}
+use Rattle.meaning.specs.Judgement.{meant}
+use Rattle.model.specs.Questions.{passes}
+use Rattle.model.proofs.Questions.{passes-append}
 use Rattle.card.specs.Grammar.{fieldTag, valueSize, fieldValue, afterField, standsWhole}
 use Rattle.card.specs.Reading.{Progress, hasPlace, valueQuestions, fieldQuestions, endQuestions, questionsFrom, readFrom}
 use Rattle.card.proofs.Step.{next, shorter, questions-field, read-field}

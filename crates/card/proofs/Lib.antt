@@ -1,9 +1,13 @@
 pub mod Reading
 pub mod Step
 pub mod Fields
+pub mod FormLaws
 pub mod Accepted
 pub mod ReadSound
 pub mod Written
 pub mod ReadBack
+pub mod WriteLaws
 pub mod WriteBack
 pub mod RoundTrip
+pub mod ReaderLaws
+pub mod AtPlace

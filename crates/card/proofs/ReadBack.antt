@@ -4,12 +4,12 @@ use mathlib.Core.Path.{_≡_, refl, sym, ap, _∙_}
 use mathlib.Core.Bool.{Bool, true}
 use mathlib.Core.List.{List, [], _∷_, _++_, append-assoc, append-nil, List·Memᴰ·head, Memᴰ·append-right}
 use native.Mathlib.Omega.{arith}
-use borrow.Author.Tests.{ltb-true, lt-ltb, le-leb, eq-eqb}
+use borrow.Author.Tests.{lt-ltb, le-leb, eq-eqb}
 use lib.ListN.{length, length-append}
 use lib.Seq.{getD-append-seam, append-snoc}
 use lib.Dec.{eqb}
 use Rattle.sets.specs.Quantifiers.{allIn}
-use Rattle.sets.specs.Numbers.{numberFrom, numberAt, bytes}
+use Rattle.sets.specs.Numbers.{numberAt}
 use Rattle.sets.proofs.Quantifiers.{and-left, and-right, every-below, every-list}
 use Rattle.sets.proofs.Lists.{apart-before, some-alike}
 use Rattle.register.specs.declared.Record.{Record}
@@ -20,19 +20,21 @@ use Rattle.register.proofs.FormLaws.{length-record, record-decode-encode}
 use Rattle.directive.specs.declared.Directive.{Directive}
 use Rattle.directive.specs.Form.{draftSize, directiveBytes, wellFormed}
 use Rattle.directive.proofs.FormLaws.{length-directive, decode-encode, ranges-kept}
-use Rattle.validation.specs.Meaning.{conflict}
-use Rattle.validation.specs.Judgement.{meant}
-use Rattle.validation.proofs.ConflictLaws.{conflict-sym}
-use Rattle.ledger.specs.Model.{Model, withTokens}
-use Rattle.ledger.specs.Questions.{passes, inRegister, hasMinutes, activePlaces, directiveQuestions}
-use Rattle.ledger.specs.Sound.{stands, SoundModel}
+use Rattle.meaning.specs.Meaning.{conflict}
+use Rattle.meaning.specs.Judgement.{meant}
+use Rattle.meaning.proofs.ConflictLaws.{conflict-sym}
+use Rattle.model.specs.Model.{Model, withTokens}
+use Rattle.model.specs.Questions.{passes, inRegister, hasMinutes, activePlaces, directiveQuestions}
+use Rattle.model.specs.Sound.{stands, SoundModel}
 use Rattle.card.specs.Grammar.{tagOf, field}
+use Rattle.card.specs.Form.{headBytes}
 use Rattle.card.specs.Reading.{Progress, nothingRead, writtenEdition, hasPlace, valueQuestions, fieldQuestions, withHead, withField}
-use Rattle.card.specs.Writing.{headBytes, recordFields, directiveFields, cardBytes}
+use Rattle.card.specs.Writing.{writtenHead, recordFields, directiveFields, cardBytes}
+use Rattle.card.proofs.FormLaws.{length-head, head-decode-encode}
 use Rattle.card.proofs.Fields.{size-written, value-written, after-written, whole-written}
 use Rattle.card.proofs.Accepted.{Accepted, ended, one-more}
 use Rattle.card.proofs.ReadSound.{filled}
-use Rattle.card.proofs.Written.{OneEach, one-a-record, one-a-directive, length-head}
+use Rattle.card.proofs.Written.{OneEach, one-a-record, one-a-directive}
 
 -- a field that is written passes where its value does
 accept-field :
@@ -83,14 +85,10 @@ partly m ps rs ds =
           };
     }
 
-head-read : (m : Model) → SoundModel m → withHead (headBytes m) ≡ partly m [] [] []
-unfolding bytes numberFrom
+head-read : (m : Model) → SoundModel m → withHead (headBytes (writtenHead m)) ≡ partly m [] [] []
 head-read m h =
-    let person = ltb-true (m .patient) 65536 (h .patient-in) in
-    let minute = ltb-true (m .clock) 4294967296 (h .clock-in) in
-    let patient : numberAt 1 2 (headBytes m) ≡ m .patient = omega arith in
-    let clock : numberAt 3 4 (headBytes m) ≡ m .clock = omega arith in
-    rw (patient, clock)
+    let same = head-decode-encode (writtenHead m) refl (h .patient-in) (h .clock-in) in
+    rw (ap (λ x. x .edition) same, ap (λ x. x .patient) same, ap (λ x. x .clock) same)
 
 module _ (m : Model) (h : SoundModel m) (a-record : 0 < length (m .register .records)) (q : Progress) where
   -- a record passes 3 and 4 after those before it
@@ -154,12 +152,12 @@ unfolding allIn cardBytes
 accept-card m h a-record =
     let ps = m .register .roles in
     let rs = m .register .records in
-    let start = field 0x01 (headBytes m) in
+    let start = field 0x01 (headBytes (writtenHead m)) in
     let directives = directiveFields (m .active) in
     let q = partly m ps rs (m .active) in
     let roles-few = h .register .roles-few in
     let a-role = h .register .roles-with-records a-record in
-    let edition : numberAt 0 1 (headBytes m) ≡ writtenEdition = ap (λ p. p .edition) (head-read m h) in
+    let edition : numberAt 0 1 (headBytes (writtenHead m)) ≡ writtenEdition = ap (λ p. p .edition) (head-read m h) in
     let from-directives =
     accept-from one-a-directive (partly m ps rs) (m .active) q (accept-directive m h a-record q) [] (m .active) refl []
     (ended (rw (filled ps a-role, filled rs a-record)))
@@ -169,7 +167,7 @@ accept-card m h a-record =
     (rw append-nil at from-directives)
     in
     rw (append-assoc (start ++ field 0x02 ps) (recordFields rs) directives, append-assoc start (field 0x02 ps) _)
-    (accept-field nothingRead 0x01 (headBytes m) _ (omega (arith, length-head m)) (rw (length-head m)) (rw edition)
+    (accept-field nothingRead 0x01 (headBytes (writtenHead m)) _ (omega (arith, length-head (writtenHead m))) (rw (length-head (writtenHead m))) (rw edition)
     (rw (head-read m h)
     (accept-field (partly m [] [] []) 0x02 ps _ (omega arith)
     (rw (le-leb 1 (length ps) a-role, le-leb (length ps) 16 roles-few))

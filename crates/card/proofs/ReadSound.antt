@@ -22,14 +22,14 @@ use Rattle.register.specs.Form.{recordOf, recordFits, recordWidths}
 use Rattle.register.proofs.FormLaws.{record-widths}
 use Rattle.directive.specs.declared.Directive.{Directive}
 use Rattle.directive.specs.Form.{everyPurpose, withPurposes}
-use Rattle.validation.specs.Judgement.{meant}
-use Rattle.ledger.specs.Model.{Model, emptyModel}
-use Rattle.ledger.specs.Answer.{done}
-use Rattle.ledger.specs.Questions.{passes}
-use Rattle.ledger.specs.Sound.{SoundRegister, stands, SoundModel}
-use Rattle.ledger.proofs.Questions.{outcome-by}
+use Rattle.meaning.specs.Judgement.{meant}
+use Rattle.model.specs.Model.{Model, emptyModel}
+use Rattle.model.specs.Answer.{done}
+use Rattle.model.specs.Questions.{passes}
+use Rattle.model.specs.Sound.{SoundRegister, stands, SoundModel}
+use Rattle.model.proofs.Questions.{outcome-by}
 use Rattle.ledger.proofs.Beginning.{empty-model-sound}
-use Rattle.ledger.proofs.Soundness.{sound-draft}
+use Rattle.model.proofs.Soundness.{sound-draft}
 use Rattle.card.specs.Grammar.{Tag, head, roles, item, directive, other, fieldTag, fieldValue}
 use Rattle.card.specs.Reading.{Progress, nothingRead, isEmpty, lastEdition, hasPlace, valueQuestions, fieldQuestions, withRegister, withField, cardQuestions, contentOf, reading}
 use Rattle.card.proofs.Step.{next}

@@ -7,11 +7,11 @@ use lib.ListN.{length}
 use Rattle.sets.specs.Quantifiers.{allIn}
 use Rattle.sets.specs.Numbers.{isBytes}
 use Rattle.sets.proofs.Quantifiers.{and-left, and-right}
-use Rattle.ledger.specs.Model.{Model, withTokens, emptyModel}
-use Rattle.ledger.specs.Answer.{done}
-use Rattle.ledger.specs.Questions.{passes}
-use Rattle.ledger.specs.Sound.{SoundModel}
-use Rattle.ledger.proofs.Questions.{outcome-passed}
+use Rattle.model.specs.Model.{Model, withTokens, emptyModel}
+use Rattle.model.specs.Answer.{done}
+use Rattle.model.specs.Questions.{passes}
+use Rattle.model.specs.Sound.{SoundModel}
+use Rattle.model.proofs.Questions.{outcome-passed}
 use Rattle.card.specs.Reading.{nothingRead, writtenEdition, cardQuestions, contentOf, reading}
 use Rattle.card.specs.Writing.{cardBytes}
 use Rattle.card.proofs.Accepted.{accepted-passes, accepted-read, accepted-end, accepted-of}

@@ -8,11 +8,11 @@ use native.Mathlib.Omega.{arith}
 use lib.ListN.{length, length-drop}
 use lib.Dec.{eqb·suc-zero}
 use Rattle.sets.specs.Quantifiers.{pick}
-use Rattle.validation.specs.Judgement.{Judgement}
-use Rattle.ledger.specs.Model.{emptyModel}
-use Rattle.ledger.specs.Answer.{done}
-use Rattle.ledger.specs.Questions.{firstNo, passes, Outcome, outcome}
-use Rattle.ledger.proofs.Questions.{outcome-passed, outcome-missed, outcome-append}
+use Rattle.meaning.specs.Judgement.{Judgement}
+use Rattle.model.specs.Model.{emptyModel}
+use Rattle.model.specs.Answer.{done}
+use Rattle.model.specs.Questions.{firstNo, passes, Outcome, outcome}
+use Rattle.model.proofs.Questions.{outcome-passed, outcome-missed, outcome-append}
 use Rattle.card.specs.Grammar.{fieldTag, valueSize, fieldValue, afterField}
 use Rattle.card.specs.Reading.{Progress, isEmpty, fieldQuestions, withField, endQuestions, questionsFrom, readFrom}
 

@@ -5,22 +5,22 @@ use mathlib.Core.Bool.{Bool, true, false, not}
 use mathlib.Core.List.{List, [], _++_, append-assoc, append-nil}
 use native.Mathlib.Omega.{arith}
 use borrow.Author.Tests.{not-true, leb-true, eqb-true}
-use lib.ListN.{length, take, getD}
-use lib.Seq.{take-all}
+use lib.ListN.{length, getD}
 use lib.Dec.{eqb}
 use Rattle.sets.specs.Quantifiers.{pick, allIn}
-use Rattle.sets.specs.Numbers.{numberAt, bytes, isBytes}
+use Rattle.sets.specs.Numbers.{numberAt, isBytes}
 use Rattle.sets.proofs.Quantifiers.{both-ways, and-left, and-right}
 use Rattle.register.specs.Form.{recordSize, recordOf}
-use Rattle.register.proofs.FieldLaws.{bytes-next}
 use Rattle.register.proofs.FormLaws.{record-encode-decode}
 use Rattle.directive.specs.Form.{draftSize, draftOf, keepsRanges, directiveOf}
 use Rattle.directive.proofs.FormLaws.{encode-decode}
-use Rattle.validation.specs.Judgement.{meant}
-use Rattle.ledger.specs.Questions.{passes, directiveQuestions}
+use Rattle.meaning.specs.Judgement.{meant}
+use Rattle.model.specs.Questions.{passes, directiveQuestions}
 use Rattle.card.specs.Grammar.{Tag, head, roles, item, directive, other, tagOf, field, fieldTag, fieldValue, afterField}
-use Rattle.card.specs.Reading.{Progress, nothingRead, isEmpty, headSize, writtenEdition, hasPlace, valueQuestions, withHead, withField}
-use Rattle.card.specs.Writing.{headBytes, recordFields, directiveFields, cardBytes}
+use Rattle.card.specs.Form.{headSize, headBytes}
+use Rattle.card.specs.Reading.{Progress, nothingRead, isEmpty, writtenEdition, hasPlace, valueQuestions, withHead, withField}
+use Rattle.card.specs.Writing.{writtenHead, recordFields, directiveFields, cardBytes}
+use Rattle.card.proofs.FormLaws.{head-encode-decode}
 use Rattle.card.proofs.Fields.{value-bytes, after-bytes, field-parts}
 use Rattle.card.proofs.Accepted.{Accepted, ended, one-more, passed-of, accepted-end}
 use Rattle.card.proofs.ReadSound.{SoundSoFar, nothing-sound, none-in, filled, no-records, no-directives, edition-read, sound-field}
@@ -56,18 +56,15 @@ rolesField ps = pick (isEmpty ps) [] (field 0x02 ps)
 abbrev soFar : Progress → List ℕ
 soFar p =
     pick (eqb (p .edition) 0) []
-    (field 0x01 (headBytes (p .model))
+    (field 0x01 (headBytes (writtenHead (p .model)))
     ++ rolesField (p .model .register .roles)
     ++ recordFields (p .model .register .records)
     ++ directiveFields (p .model .active))
 
 head-written :
     (v : List ℕ) → isBytes v ≡ true → length v ≡ headSize → numberAt 0 1 v ≡ writtenEdition →
-    headBytes (withHead v .model) ≡ v
-head-written v b size edition =
-    let to-edition : bytes 1 writtenEdition ≡ take 1 v = rw edition at (bytes-next v 0 1 [] b (omega arith) refl) in
-    let to-patient = bytes-next v 1 2 _ b (omega arith) to-edition in
-    bytes-next v 3 4 _ b (omega arith) to-patient ∙ take-all 7 v (omega arith)
+    headBytes (writtenHead (withHead v .model)) ≡ v
+head-written v b size edition = rw edition at (head-encode-decode v size b)
 
 -- one part more: the first, the second, the third
 first-part : (x : List ℕ) → x ++ [] ++ [] ++ [] ≡ x
@@ -101,7 +98,7 @@ module _ (p : Progress) (h : SoundSoFar p) where
         no-records (p .model .register) (h .model .register) none,
         no-directives (p .model) (h .model) none,
       )
-      (second-part (field 0x01 (headBytes (p .model))) (field 0x02 v))
+      (second-part (field 0x01 (headBytes (writtenHead (p .model)))) (field 0x02 v))
   so-far-value b item v e placed passed edition =
       let c = p .model .register in
       let empty : isEmpty (p .model .active) ≡ true = search (and-left, and-right) in
@@ -112,7 +109,7 @@ module _ (p : Progress) (h : SoundSoFar p) where
         fields-snoc one-a-record (c .records) (recordOf v),
         record-encode-decode v size e,
       )
-      (third-part (field 0x01 (headBytes (p .model))) (rolesField (c .roles)) (recordFields (c .records)) (field 0x03 v))
+      (third-part (field 0x01 (headBytes (writtenHead (p .model)))) (rolesField (c .roles)) (recordFields (c .records)) (field 0x03 v))
   so-far-value b directive v e placed passed edition =
       let c = p .model .register in
       let long : eqb (length v) draftSize ≡ true = and-right (not (isEmpty (c .records))) _ (rw edition at placed) in
@@ -123,7 +120,7 @@ module _ (p : Progress) (h : SoundSoFar p) where
         encode-decode v (eqb-true (length v) draftSize long) e ranges,
       )
       (sym
-      (append-assoc (field 0x01 (headBytes (p .model)) ++ rolesField (c .roles) ++ recordFields (c .records))
+      (append-assoc (field 0x01 (headBytes (writtenHead (p .model))) ++ rolesField (c .roles) ++ recordFields (c .records))
       (directiveFields (p .model .active))
       (field 0x04 v)))
   so-far-value b other v e placed passed edition = both-ways placed refl

@@ -11,18 +11,21 @@ use Rattle.sets.specs.Quantifiers.{allIn}
 use Rattle.sets.specs.Numbers.{isBytes}
 use Rattle.sets.proofs.Quantifiers.{every-below}
 use Rattle.sets.proofs.Lists.{all-append, all-places}
-use Rattle.sets.proofs.Numbers.{length-bytes, bytes-are-bytes}
+use Rattle.sets.proofs.Numbers.{bytes-are-bytes}
 use Rattle.register.specs.Tree.{parentOf, parentFits, isTree}
+use Rattle.register.specs.declared.Record.{Record}
 use Rattle.register.specs.Form.{recordBytes}
 use Rattle.register.proofs.FormLaws.{length-record, record-are-bytes}
+use Rattle.directive.specs.declared.Directive.{Directive}
 use Rattle.directive.specs.Form.{directiveBytes}
 use Rattle.directive.proofs.FormLaws.{length-directive, directive-are-bytes}
-use Rattle.ledger.specs.Model.{Model}
-use Rattle.ledger.specs.Sound.{SoundModel}
+use Rattle.model.specs.Model.{Model}
+use Rattle.model.specs.Sound.{SoundModel}
 use Rattle.card.specs.Grammar.{field}
-use Rattle.card.specs.Reading.{headSize}
-use Rattle.card.specs.Writing.{headBytes, recordFields, directiveFields, cardBytes}
+use Rattle.card.specs.Form.{headBytes}
+use Rattle.card.specs.Writing.{writtenHead, recordFields, directiveFields, cardBytes}
 use Rattle.card.proofs.Fields.{length-field}
+use Rattle.card.proofs.FormLaws.{length-head, head-are-bytes}
 
 field-bytes : (tag : ℕ) (v : List ℕ) → tag < 256 → isBytes v ≡ true → isBytes (field tag v) ≡ true
 unfolding allIn
@@ -41,12 +44,15 @@ pub one-a-directive : OneEach directiveFields (λ d. field 0x04 (directiveBytes 
 unfolding directiveFields
 one-a-directive = record { none = refl; more = λ d ds. refl }
 
+pub one-a-byte : OneEach {A = ℕ} (λ l. l) (λ b. b ∷ [])
+one-a-byte = record { none = refl; more = λ b l. refl }
+
 module _ {A : Type 0} {fields : List A → List ℕ} {oneIf : A → List ℕ} (each : OneEach fields oneIf) where
   pub fields-snoc : (l : List A) (a : A) → fields (l ++ (a ∷ [])) ≡ fields l ++ oneIf a
   fields-snoc [] a = rw (each .more, each .none, append-nil)
   fields-snoc (x ∷ l) a = rw (each .more x (l ++ (a ∷ [])), each .more x l, fields-snoc l a, append-assoc)
 
-  fields-length : (n : ℕ) → ((a : A) → length (oneIf a) ≡ n) → (l : List A) → length (fields l) ≡ n * length l
+  pub fields-length : (n : ℕ) → ((a : A) → length (oneIf a) ≡ n) → (l : List A) → length (fields l) ≡ n * length l
   fields-length n f [] = rw (each .none) (omega arith)
   fields-length n f (a ∷ l) = rw (each .more, length-append, f a, fields-length n f l) (omega arith)
 
@@ -67,8 +73,11 @@ roles-bytes ps tree few =
     lt-ltb (parentOf ps q) 256
     (parent-byte q (parentOf ps q) (every-below (length ps) .read _ tree q h) (omega arith))
 
-pub length-head : (m : Model) → length (headBytes m) ≡ headSize
-length-head m = simp (length-append, length-bytes)
+pub record-field-size : (r : Record) → length (field 0x03 (recordBytes r)) ≡ 13
+record-field-size r = length-field 0x03 (recordBytes r) ∙ rw (length-record r)
+
+pub directive-field-size : (d : Directive) → length (field 0x04 (directiveBytes d)) ≡ 28
+directive-field-size d = length-field 0x04 (directiveBytes d) ∙ rw (length-directive d)
 
 module _ (m : Model) where
   pub length-card :
@@ -76,7 +85,7 @@ module _ (m : Model) where
       ≡ 10 + (3 + length (m .register .roles)) + 13 * length (m .register .records) + 28 * length (m .active)
   unfolding cardBytes
   length-card =
-      let start = field 0x01 (headBytes m) in
+      let start = field 0x01 (headBytes (writtenHead m)) in
       let ps = field 0x02 (m .register .roles) in
       let items = recordFields (m .register .records) in
       omega (
@@ -84,11 +93,11 @@ module _ (m : Model) where
         length-append (start ++ ps ++ items) (directiveFields (m .active)),
         length-append (start ++ ps) items,
         length-append start ps,
-        length-field 0x01 (headBytes m),
-        length-head m,
+        length-field 0x01 (headBytes (writtenHead m)),
+        length-head (writtenHead m),
         length-field 0x02 (m .register .roles),
-        fields-length one-a-record 13 (λ r. length-field 0x03 (recordBytes r) ∙ rw (length-record r)) (m .register .records),
-        fields-length one-a-directive 28 (λ d. length-field 0x04 (directiveBytes d) ∙ rw (length-directive d)) (m .active),
+        fields-length one-a-record 13 record-field-size (m .register .records),
+        fields-length one-a-directive 28 directive-field-size (m .active),
       )
 
   module _ (h : SoundModel m) where
@@ -98,7 +107,7 @@ module _ (m : Model) where
     pub card-are-bytes : isBytes (cardBytes m) ≡ true
     unfolding cardBytes
     card-are-bytes =
-        let start = field 0x01 (headBytes m) in
+        let start = field 0x01 (headBytes (writtenHead m)) in
         let ps = field 0x02 (m .register .roles) in
         let items = recordFields (m .register .records) in
         let few = h .register .roles-few in
@@ -106,7 +115,7 @@ module _ (m : Model) where
           all-append _ (start ++ ps ++ items) (directiveFields (m .active)),
           all-append _ (start ++ ps) items,
           all-append _ start ps,
-          field-bytes 0x01 (headBytes m) (omega arith) (simp (all-append, bytes-are-bytes)),
+          field-bytes 0x01 (headBytes (writtenHead m)) (omega arith) (head-are-bytes (writtenHead m)),
           field-bytes 0x02 (m .register .roles) (omega arith)
               (roles-bytes (m .register .roles) (h .register .roles-tree) (omega arith)),
           fields-bytes one-a-record (λ r. field-bytes 0x03 (recordBytes r) (omega arith) (record-are-bytes r))

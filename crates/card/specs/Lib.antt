@@ -1,5 +1,7 @@
 pub mod Answer
+pub mod Form
 pub mod Grammar
 pub mod Reading
 pub mod Writing
+pub mod Reader
 pub mod Promises

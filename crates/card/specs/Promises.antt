@@ -3,7 +3,7 @@ use Prim.Native.Nat.{ℕ}
 use mathlib.Core.Path.{_≡_}
 use mathlib.Core.List.{List}
 use Rattle.ledger.specs.declared.Ledger.{Ledger}
-use Rattle.ledger.specs.Model.{view, emptyLedger}
+use Rattle.ledger.specs.State.{view, emptyLedger}
 use Rattle.ledger.specs.Sound.{Sound}
 use Rattle.ledger.specs.Promises.{Gives}
 use Rattle.card.specs.declared.ReadResult.{ReadResult}

@@ -5,16 +5,16 @@ use mathlib.Core.List.{List, [], _∷_, _++_}
 use lib.ListN.{length}
 use lib.Dec.{eqb, leb, ltb}
 use Rattle.sets.specs.Quantifiers.{pick}
-use Rattle.sets.specs.Numbers.{numberAt}
 use Rattle.register.specs.Register.{Contents}
 use Rattle.register.specs.Tree.{isTree}
 use Rattle.register.specs.Form.{recordSize, recordOf, recordFits}
 use Rattle.directive.specs.declared.Draft.{Draft}
 use Rattle.directive.specs.Form.{draftSize, firstEditionSize, draftOf, withPurposes, directiveOf}
-use Rattle.validation.specs.Judgement.{Judgement, meant}
-use Rattle.ledger.specs.Model.{Model, withActive, emptyModel}
-use Rattle.ledger.specs.Answer.{done, refusal}
-use Rattle.ledger.specs.Questions.{Question, ask, Outcome, outcome, directiveQuestions}
+use Rattle.meaning.specs.Judgement.{Judgement, meant}
+use Rattle.model.specs.Model.{Model, withActive, emptyModel}
+use Rattle.model.specs.Answer.{done, refusal}
+use Rattle.model.specs.Questions.{Question, ask, Outcome, outcome, directiveQuestions}
+use Rattle.card.specs.Form.{headSize, headOf}
 use Rattle.card.specs.Grammar.{Tag, head, roles, item, directive, other, fieldTag, valueSize, fieldValue, afterField, standsWhole}
 
 -- What was read so far: the edition (0 before the head), and patient, clock, register and directives.
@@ -34,10 +34,6 @@ lastEdition = 2
 
 abbrev pub writtenEdition : ℕ
 writtenEdition = 2
-
--- "edition (1 or 2), patient 2, minute 4 (sets the clock)"
-abbrev pub headSize : ℕ
-headSize = 7
 
 -- "Edition 1 leaves out purposes (23 bytes)"
 abbrev pub directiveSize : ℕ → ℕ
@@ -59,7 +55,7 @@ directiveDraft edition v = draftOf (pick (eqb edition 1) (withPurposes v) v)
 -- Questions 3 and 4, or 7 to 13, of a field's value: "Is it at most the 128th record? 3. Do edition, roles or record keep the
 -- ranges above? 4. A 0x04 field goes on with 7 to 13."
 abbrev pub valueQuestions : Judgement → Progress → Tag → List ℕ → List Question
-valueQuestions j p head v = ask 4 (leb 1 (numberAt 0 1 v) && leb (numberAt 0 1 v) lastEdition) ∷ []
+valueQuestions j p head v = ask 4 (leb 1 (headOf v .edition) && leb (headOf v .edition) lastEdition) ∷ []
 valueQuestions j p roles v = ask 4 (isTree v) ∷ []
 valueQuestions j p item v =
     ask 3 (ltb (length (p .model .register .records)) 128)
@@ -79,11 +75,11 @@ fieldQuestions j p s =
 abbrev pub withHead : List ℕ → Progress
 withHead v =
     record {
-      edition = numberAt 0 1 v;
+      edition = headOf v .edition;
       model =
           record {
-            patient = numberAt 1 2 v;
-            clock = numberAt 3 4 v;
+            patient = headOf v .patient;
+            clock = headOf v .clock;
             register = record { roles = []; records = [] };
             active = [];
             tokens = [];

@@ -5,19 +5,20 @@ use mathlib.Core.List.{List, [], _∷_, _++_}
 use lib.ListN.{length, drop}
 use lib.Dec.{leb}
 use Rattle.sets.specs.Quantifiers.{pick}
-use Rattle.sets.specs.Numbers.{bytes}
 use Rattle.register.specs.declared.Record.{Record}
 use Rattle.register.specs.Form.{recordBytes}
 use Rattle.directive.specs.declared.Directive.{Directive}
 use Rattle.directive.specs.Form.{directiveBytes}
-use Rattle.ledger.specs.Model.{Model}
-use Rattle.ledger.specs.Answer.{Answer, done}
-use Rattle.ledger.specs.Questions.{Question, ask, firstNo, passes}
+use Rattle.model.specs.Model.{Model}
+use Rattle.model.specs.Answer.{Answer, done}
+use Rattle.model.specs.Questions.{Question, ask, firstNo, passes}
+use Rattle.card.specs.declared.form.Head.{Head}
+use Rattle.card.specs.Form.{headBytes}
 use Rattle.card.specs.Grammar.{field}
 use Rattle.card.specs.Reading.{isEmpty, writtenEdition}
 
-abbrev pub headBytes : Model → List ℕ
-headBytes m = bytes 1 writtenEdition ++ bytes 2 (m .patient) ++ bytes 4 (m .clock)
+abbrev pub writtenHead : Model → Head
+writtenHead m = record { edition = writtenEdition; patient = m .patient; clock = m .clock }
 
 -- one field a record, in order
 unfoldable pub recordFields : List Record → List ℕ
@@ -31,7 +32,7 @@ directiveFields (d ∷ ds) = field 0x04 (directiveBytes d) ++ directiveFields ds
 
 unfoldable pub cardBytes : Model → List ℕ
 cardBytes m =
-    field 0x01 (headBytes m)
+    field 0x01 (headBytes (writtenHead m))
     ++ field 0x02 (m .register .roles)
     ++ recordFields (m .register .records)
     ++ directiveFields (m .active)

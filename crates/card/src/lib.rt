@@ -2,6 +2,11 @@
 use ledger::Ledger;
 use ledger::answer::DirectiveRefusal;
 
+pub mod check;
+pub mod form;
+pub mod read;
+pub mod write;
+
 pub enum ReadAnswer {
     Accepted,
     // a field does not stand whole in the card

@@ -220,29 +220,57 @@ kept d e =
       within = within;
     }
 
-pub draft-formed :
-    (s : List ℕ) → isBytes s ≡ true → keepsRanges (draftOf s) ≡ true → wellFormed (directiveOf (draftOf s)) ≡ true
-unfolding wellFormed directiveOf draftOf
-draft-formed s e r =
-    let k = kept (draftOf s) r in
+-- the widths of a draft's numbers
+pub record Widths (d : Draft) : Type 0 where
+  pub number : d .number < 2 ^ 16
+  pub subject : d .subject < 2 ^ 16
+  pub subject-origins : d .«subject_origins» < 2 ^ 16
+  pub root : d .«record» < 2 ^ 8
+  pub origins : d .origins < 2 ^ 16
+  pub sensitivities : d .sensitivities < 2 ^ 16
+  pub kinds : d .kinds < 2 ^ 8
+  pub purposes : d .purposes < 2 ^ 16
+  pub from : d .from < 2 ^ 32
+  pub until : d .until < 2 ^ 32
+
+pub bytes-wide : (s : List ℕ) → isBytes s ≡ true → Widths (draftOf s)
+unfolding draftOf
+bytes-wide s e =
+    record {
+      number = number-at-bound 0 2 s e;
+      subject = number-at-bound 4 2 s e;
+      subject-origins = number-at-bound 6 2 s e;
+      root = number-at-bound 8 1 s e;
+      origins = number-at-bound 10 2 s e;
+      sensitivities = number-at-bound 12 2 s e;
+      kinds = number-at-bound 14 1 s e;
+      purposes = number-at-bound 15 2 s e;
+      from = number-at-bound 17 4 s e;
+      until = number-at-bound 21 4 s e;
+    }
+
+pub draft-formed : (d : Draft) → Widths d → keepsRanges d ≡ true → wellFormed (directiveOf d) ≡ true
+unfolding wellFormed directiveOf
+draft-formed d w r =
+    let k = kept d r in
     rw (
-      lt-ltb _ _ (number-at-bound 0 2 s e),
-      subject-number (numberAt 3 1 s) (numberAt 4 2 s),
-      lt-ltb _ _ (number-at-bound 4 2 s e),
+      lt-ltb _ _ (w .number),
+      subject-number (d .«subject_kind») (d .subject),
+      lt-ltb _ _ (w .subject),
       k .subject-origins,
-      lt-ltb _ _ (number-at-bound 6 2 s e),
-      lt-ltb _ _ (number-at-bound 8 1 s e),
+      lt-ltb _ _ (w .subject-origins),
+      lt-ltb _ _ (w .root),
       k .reach,
       k .origins,
-      lt-ltb _ _ (number-at-bound 10 2 s e),
+      lt-ltb _ _ (w .origins),
       k .sensitivities,
-      lt-ltb _ _ (number-at-bound 12 2 s e),
+      lt-ltb _ _ (w .sensitivities),
       k .kinds,
-      lt-ltb _ _ (number-at-bound 14 1 s e),
+      lt-ltb _ _ (w .kinds),
       k .purposes,
-      sym (purposes-within (numberAt 15 2 s) (number-at-bound 15 2 s e)) ∙ k .within,
-      lt-ltb _ _ (number-at-bound 17 4 s e),
-      lt-ltb _ _ (number-at-bound 21 4 s e),
+      sym (purposes-within (d .purposes) (w .purposes)) ∙ k .within,
+      lt-ltb _ _ (w .from),
+      lt-ltb _ _ (w .until),
     )
 
 pub encode-decode :

@@ -11,10 +11,11 @@ use Rattle.sets.specs.Quantifiers.{allIn}
 use Rattle.sets.specs.Numbers.{isBytes}
 use Rattle.sets.proofs.Quantifiers.{and-left}
 use Rattle.ledger.specs.declared.Ledger.{Ledger}
-use Rattle.ledger.specs.Model.{Model, view, withTokens}
-use Rattle.ledger.specs.Answer.{done}
-use Rattle.ledger.specs.Questions.{passes}
-use Rattle.ledger.proofs.Questions.{first-passed}
+use Rattle.model.specs.Model.{Model, withTokens}
+use Rattle.ledger.specs.State.{view}
+use Rattle.model.specs.Answer.{done}
+use Rattle.model.specs.Questions.{passes}
+use Rattle.model.proofs.Questions.{first-passed}
 use Rattle.card.specs.declared.ReadResult.{ReadResult}
 use Rattle.card.specs.declared.WriteAnswer.{WriteAnswer}
 use Rattle.card.specs.Answer.{readAnswer, writeAnswer}

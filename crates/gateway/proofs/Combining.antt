@@ -11,19 +11,21 @@ use Rattle.directive.specs.declared.Directive.{Directive}
 use Rattle.directive.specs.declared.Request.{Request}
 use Rattle.directive.specs.declared.Query.{Query}
 use Rattle.directive.specs.Matching.{matches, requestAt}
-use Rattle.validation.specs.Requests.{persons, InRange}
+use Rattle.meaning.specs.Requests.{persons, InRange}
 use Rattle.ledger.specs.declared.Ledger.{Ledger}
 use Rattle.ledger.specs.declared.answer.DecideAnswer.{DecideAnswer}
-use Rattle.ledger.specs.Model.{Model, view}
+use Rattle.model.specs.Model.{Model}
+use Rattle.ledger.specs.State.{view}
 use Rattle.directive.specs.Lowest.{lowest}
-use Rattle.ledger.specs.Decision.{matching, isPatient, isAuthor, decision}
-use Rattle.ledger.specs.Xacml.{Result, Permit, Deny, NotApplicable, isPermit, isDeny, denyOverrides, permitOverrides, resultOf, results, directivesSay, effectOf}
-use Rattle.ledger.specs.Questions.{passes, decideQuestions}
-use Rattle.ledger.specs.Sound.{SoundModel, Sound}
+use Rattle.model.specs.Decision.{matching, isPatient, isAuthor, decision}
+use Rattle.model.specs.Xacml.{Result, Permit, Deny, NotApplicable, isPermit, isDeny, denyOverrides, permitOverrides, resultOf, results, directivesSay, effectOf}
+use Rattle.model.specs.Questions.{passes, decideQuestions}
+use Rattle.model.specs.Sound.{SoundModel}
+use Rattle.ledger.specs.Sound.{Sound}
 use Rattle.ledger.specs.Promises.{Decides}
-use Rattle.ledger.proofs.Lowest.{lowest-is}
-use Rattle.ledger.proofs.Clash.{no-clash-at}
-use Rattle.ledger.proofs.Saying.{in-range-now, said-effect}
+use Rattle.model.proofs.Lowest.{lowest-is}
+use Rattle.model.proofs.Clash.{no-clash-at}
+use Rattle.model.proofs.Saying.{in-range-now, said-effect}
 use Rattle.gateway.specs.Demands.{effectAndBasis, effectValues}
 use Rattle.gateway.proofs.Decisions.{decided-kept}
 

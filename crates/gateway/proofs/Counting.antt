@@ -4,13 +4,15 @@ use mathlib.Core.Path.{_≡_}
 use mathlib.Core.List.{List}
 use native.Mathlib.Omega.{arith}
 use lib.ListN.{length}
-use Rattle.validation.specs.Judgement.{meant}
+use Rattle.meaning.specs.Judgement.{meant}
 use Rattle.ledger.specs.declared.Ledger.{Ledger}
-use Rattle.ledger.specs.Model.{Model, view}
-use Rattle.ledger.specs.Answer.{Answer}
-use Rattle.ledger.specs.Calls.{Call, commit, revoke, advance, issue, calledBy}
-use Rattle.ledger.specs.Sound.{SoundModel, Sound}
-use Rattle.ledger.proofs.Balance.{commit-active, revoke-active, advance-active, issue-active}
+use Rattle.model.specs.Model.{Model}
+use Rattle.ledger.specs.State.{view}
+use Rattle.model.specs.Answer.{Answer}
+use Rattle.model.specs.Calls.{Call, commit, revoke, advance, issue, calledBy}
+use Rattle.model.specs.Sound.{SoundModel}
+use Rattle.ledger.specs.Sound.{Sound}
+use Rattle.model.proofs.Balance.{commit-active, revoke-active, advance-active, issue-active}
 use Rattle.gateway.specs.Runs.{Run, ended, more}
 use Rattle.gateway.specs.Counts.{total, acceptedOne, revokedOne, expiredOf}
 use Rattle.gateway.proofs.Runs.{called-gives}

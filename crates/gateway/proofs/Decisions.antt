@@ -8,14 +8,15 @@ use Rattle.sets.proofs.Quantifiers.{either-way}
 use Rattle.directive.specs.declared.Query.{Query}
 use Rattle.ledger.specs.declared.Ledger.{Ledger}
 use Rattle.ledger.specs.declared.answer.DecideAnswer.{DecideAnswer}
-use Rattle.ledger.specs.Model.{view}
-use Rattle.ledger.specs.Answer.{done, values, decideAnswer}
-use Rattle.ledger.specs.Decision.{isPatient, isAuthor, decision, decisionValues}
-use Rattle.ledger.specs.Questions.{passes, decideQuestions}
-use Rattle.ledger.specs.Calls.{decided}
+use Rattle.ledger.specs.State.{view}
+use Rattle.model.specs.Answer.{done, values}
+use Rattle.ledger.specs.Answer.{decideAnswer}
+use Rattle.model.specs.Decision.{isPatient, isAuthor, decision, decisionValues}
+use Rattle.model.specs.Questions.{passes, decideQuestions}
+use Rattle.model.specs.Calls.{decided}
 use Rattle.ledger.specs.Sound.{Sound}
 use Rattle.ledger.specs.Promises.{Decides}
-use Rattle.ledger.proofs.Questions.{first-passed}
+use Rattle.model.proofs.Questions.{first-passed}
 
 module _
     (l : Ledger) (h : Sound l) (q : Query) (a : DecideAnswer) (decides : Decides l q a)

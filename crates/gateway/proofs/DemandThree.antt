@@ -1,6 +1,6 @@
 -- Demand 3, clause by clause, of the ledger after any list of calls on the ledger of an accepted card.
-use Rattle.ledger.specs.Model.{view}
-use Rattle.ledger.proofs.Clash.{no-clash-at}
+use Rattle.ledger.specs.State.{view}
+use Rattle.model.proofs.Clash.{no-clash-at}
 use Rattle.gateway.specs.Demands.{Demand3}
 use Rattle.gateway.proofs.Runs.{run-sound, run-model}
 use Rattle.gateway.proofs.Counting.{run-balance}

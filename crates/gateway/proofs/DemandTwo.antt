@@ -1,6 +1,6 @@
 -- Demand 2: decisions, briefs and cards are those of document 01, the directives say what XACML 3.0 says, and cards make their
 -- round trips.
-use Rattle.ledger.specs.Model.{view}
+use Rattle.ledger.specs.State.{view}
 use Rattle.gateway.specs.Demands.{Demand2}
 use Rattle.gateway.proofs.Runs.{meant-sound}
 use Rattle.gateway.proofs.Cards.{read-written, written-read}

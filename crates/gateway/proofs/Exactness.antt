@@ -12,22 +12,24 @@ use Rattle.sets.specs.Quantifiers.{pick, implies, someIn}
 use Rattle.sets.proofs.Quantifiers.{same-test, either-way, both-ways, and-both, implies-of, implies-at, some-list}
 use Rattle.directive.specs.declared.Directive.{Directive}
 use Rattle.directive.specs.Matching.{matches}
-use Rattle.validation.specs.Requests.{everyRequest, someRequest}
-use Rattle.validation.specs.Meaning.{sameEffect, conflict, redundant}
-use Rattle.validation.specs.Judgement.{meant}
-use Rattle.validation.proofs.Requests.{every-request, some-request}
-use Rattle.validation.proofs.ConflictLaws.{conflict-read, conflict-make}
-use Rattle.validation.proofs.RedundantLaws.{covered-read, covered-make, redundant-read, redundant-make}
+use Rattle.meaning.specs.Requests.{everyRequest, someRequest}
+use Rattle.meaning.specs.Meaning.{sameEffect, conflict, redundant}
+use Rattle.meaning.specs.Judgement.{meant}
+use Rattle.meaning.proofs.Requests.{every-request, some-request}
+use Rattle.meaning.proofs.ConflictLaws.{conflict-read, conflict-make}
+use Rattle.meaning.proofs.RedundantLaws.{covered-read, covered-make, redundant-read, redundant-make}
 use Rattle.ledger.specs.declared.Ledger.{Ledger}
 use Rattle.ledger.specs.declared.answer.CommitResult.{CommitResult}
-use Rattle.ledger.specs.Model.{Model, view}
-use Rattle.ledger.specs.Answer.{Answer, done, refused, refusal, commitAnswer}
+use Rattle.model.specs.Model.{Model}
+use Rattle.ledger.specs.State.{view}
+use Rattle.model.specs.Answer.{Answer, done, refused, refusal}
+use Rattle.ledger.specs.Answer.{commitAnswer}
 use Rattle.directive.specs.Lowest.{lowestNumber}
-use Rattle.ledger.specs.Questions.{firstNo, passes, before, conflicting, directiveQuestions, draftQuestions}
-use Rattle.ledger.specs.Calls.{drafted, committedBy, committed}
+use Rattle.model.specs.Questions.{firstNo, passes, before, conflicting, directiveQuestions, draftQuestions}
+use Rattle.model.specs.Calls.{drafted, committedBy, committed}
 use Rattle.ledger.specs.Sound.{Sound}
 use Rattle.ledger.specs.Promises.{Commits}
-use Rattle.ledger.proofs.Questions.{first-append, first-passed}
+use Rattle.model.proofs.Questions.{first-append, first-passed}
 use Rattle.gateway.specs.Demands.{opposed, matchedByActive, refusedWith, Exact}
 
 module _ (m : Model) (d : Directive) where

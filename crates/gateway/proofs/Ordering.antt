@@ -10,16 +10,16 @@ use Rattle.sets.specs.Quantifiers.{allIn}
 use Rattle.sets.specs.Bits.{inBits}
 use Rattle.sets.specs.Numbers.{isBytes}
 use Rattle.directive.specs.declared.Query.{Query}
-use Rattle.validation.specs.Requests.{persons}
+use Rattle.meaning.specs.Requests.{persons}
 use Rattle.ledger.specs.declared.Ledger.{Ledger}
 use Rattle.ledger.specs.declared.answer.DecideAnswer.{DecideAnswer}
-use Rattle.ledger.specs.Model.{view}
-use Rattle.ledger.specs.Answer.{Answer, values}
-use Rattle.ledger.specs.Calls.{Call, commit, advance, decided, modelAfter}
-use Rattle.ledger.specs.Compatible.{compatible, Reordered}
+use Rattle.ledger.specs.State.{view}
+use Rattle.model.specs.Answer.{Answer, values}
+use Rattle.model.specs.Calls.{Call, commit, advance, decided, modelAfter}
+use Rattle.model.specs.Compatible.{compatible, Reordered}
 use Rattle.ledger.specs.Sound.{Sound}
 use Rattle.ledger.specs.Promises.{Decides}
-use Rattle.ledger.proofs.Order.{order-model}
+use Rattle.model.proofs.Order.{order-model}
 use Rattle.gateway.specs.Runs.{Run, committing, advancing, more}
 use Rattle.gateway.specs.Demands.{effectAndBasis}
 use Rattle.gateway.proofs.Runs.{run-sound, run-model}

@@ -1,11 +1,11 @@
 -- Every ledger that is meant is sound, and a list of calls on a sound ledger gives the reference model's answers and ledger.
 use mathlib.Core.Path.{_≡_, refl}
 use mathlib.Core.List.{List}
-use Rattle.validation.specs.Judgement.{meant}
+use Rattle.meaning.specs.Judgement.{meant}
 use Rattle.ledger.specs.declared.Ledger.{Ledger}
-use Rattle.ledger.specs.Model.{view}
-use Rattle.ledger.specs.Answer.{Answer}
-use Rattle.ledger.specs.Calls.{Call, calledBy, modelAfter, answers}
+use Rattle.ledger.specs.State.{view}
+use Rattle.model.specs.Answer.{Answer}
+use Rattle.model.specs.Calls.{Call, calledBy, modelAfter, answers}
 use Rattle.ledger.specs.Sound.{Sound}
 use Rattle.ledger.specs.Promises.{Gives}
 use Rattle.ledger.proofs.Beginning.{empty-sound}

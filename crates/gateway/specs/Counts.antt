@@ -4,8 +4,8 @@ use Prim.Native.Nat.{ℕ, _+_}
 use mathlib.Core.List.{List, [], _∷_}
 use lib.ListN.{getD}
 use Rattle.sets.specs.Quantifiers.{oneIf}
-use Rattle.ledger.specs.Answer.{Answer, accepted, values}
-use Rattle.ledger.specs.Calls.{Call, commit, revoke, advance, issue}
+use Rattle.model.specs.Answer.{Answer, accepted, values}
+use Rattle.model.specs.Calls.{Call, commit, revoke, advance, issue}
 
 -- what the calls with their answers add up to, where a call with its answer adds f
 unfoldable pub total : (Call → Answer → ℕ) → List Call → List Answer → ℕ

@@ -12,9 +12,9 @@ use Rattle.directive.specs.declared.Directive.{Directive}
 use Rattle.directive.specs.declared.Request.{Request}
 use Rattle.directive.specs.declared.Query.{Query}
 use Rattle.directive.specs.Matching.{matches}
-use Rattle.validation.specs.Requests.{persons, everyRequest, someRequest, InRange}
-use Rattle.validation.specs.Meaning.{sameEffect}
-use Rattle.validation.specs.Judgement.{meant}
+use Rattle.meaning.specs.Requests.{persons, everyRequest, someRequest, InRange}
+use Rattle.meaning.specs.Meaning.{sameEffect}
+use Rattle.meaning.specs.Judgement.{meant}
 use Rattle.ledger.specs.declared.Ledger.{Ledger}
 use Rattle.ledger.specs.declared.answer.CommitResult.{CommitResult}
 use Rattle.ledger.specs.declared.answer.RevokeResult.{RevokeResult}
@@ -22,13 +22,15 @@ use Rattle.ledger.specs.declared.answer.AdvanceResult.{AdvanceResult}
 use Rattle.ledger.specs.declared.answer.IssueResult.{IssueResult}
 use Rattle.ledger.specs.declared.answer.BriefAnswer.{BriefAnswer}
 use Rattle.ledger.specs.declared.answer.DecideAnswer.{DecideAnswer}
-use Rattle.ledger.specs.Model.{Model, view, withTokens, emptyLedger}
-use Rattle.ledger.specs.Answer.{Answer, done, refused, accepted, refusal, values, commitAnswer, revokeAnswer, advanceAnswer, issueAnswer, briefAnswer, decideAnswer}
-use Rattle.ledger.specs.Decision.{matching, isPatient, isAuthor, decision, decisionValues}
-use Rattle.ledger.specs.Xacml.{Effect, directivesSay, denyOverrides, permitOverrides, results, effectOf}
-use Rattle.ledger.specs.Questions.{Question, passes, before, draftQuestions, revokeQuestions, advanceQuestions, decideQuestions, issueQuestions, briefQuestions}
-use Rattle.ledger.specs.Calls.{commit, advance, Call, drafted, afterCommit, afterRevoke, afterAdvance, afterIssue, dropped, briefValues, decided, briefed, modelAfter, answers}
-use Rattle.ledger.specs.Compatible.{compatible, Reordered}
+use Rattle.model.specs.Model.{Model, withTokens}
+use Rattle.ledger.specs.State.{view, emptyLedger}
+use Rattle.model.specs.Answer.{Answer, done, refused, accepted, refusal, values}
+use Rattle.ledger.specs.Answer.{commitAnswer, revokeAnswer, advanceAnswer, issueAnswer, briefAnswer, decideAnswer}
+use Rattle.model.specs.Decision.{matching, isPatient, isAuthor, decision, decisionValues}
+use Rattle.model.specs.Xacml.{Effect, directivesSay, denyOverrides, permitOverrides, results, effectOf}
+use Rattle.model.specs.Questions.{Question, passes, before, draftQuestions, revokeQuestions, advanceQuestions, decideQuestions, issueQuestions, briefQuestions}
+use Rattle.model.specs.Calls.{commit, advance, Call, drafted, afterCommit, afterRevoke, afterAdvance, afterIssue, dropped, briefValues, decided, briefed, modelAfter, answers}
+use Rattle.model.specs.Compatible.{compatible, Reordered}
 use Rattle.ledger.specs.Promises.{Commits, Revokes, Advances, Issues, Decides, Briefs}
 use Rattle.card.specs.declared.ReadResult.{ReadResult}
 use Rattle.card.specs.declared.WriteAnswer.{WriteAnswer}

@@ -9,9 +9,10 @@ use Rattle.ledger.specs.declared.answer.CommitResult.{CommitResult}
 use Rattle.ledger.specs.declared.answer.RevokeResult.{RevokeResult}
 use Rattle.ledger.specs.declared.answer.AdvanceResult.{AdvanceResult}
 use Rattle.ledger.specs.declared.answer.IssueResult.{IssueResult}
-use Rattle.ledger.specs.Model.{emptyLedger}
-use Rattle.ledger.specs.Answer.{Answer, commitAnswer, revokeAnswer, advanceAnswer, issueAnswer}
-use Rattle.ledger.specs.Calls.{Call, commit, revoke, advance, issue}
+use Rattle.ledger.specs.State.{emptyLedger}
+use Rattle.model.specs.Answer.{Answer}
+use Rattle.ledger.specs.Answer.{commitAnswer, revokeAnswer, advanceAnswer, issueAnswer}
+use Rattle.model.specs.Calls.{Call, commit, revoke, advance, issue}
 use Rattle.ledger.specs.Promises.{Commits, Revokes, Advances, Issues}
 use Rattle.card.specs.declared.ReadResult.{ReadResult}
 use Rattle.card.specs.Promises.{Reads}

@@ -7,8 +7,10 @@ use Rattle.sets.specs.Quantifiers.{allBelow, allIn, pairwise}
 use Rattle.register.specs.Register.{emptyRegister}
 use Rattle.register.specs.Tree.{isTree}
 use Rattle.ledger.specs.declared.Ledger.{Ledger}
-use Rattle.ledger.specs.Model.{view, emptyLedger, emptyModel}
-use Rattle.ledger.specs.Sound.{SoundModel, Sound}
+use Rattle.ledger.specs.State.{view, emptyLedger}
+use Rattle.model.specs.Model.{emptyModel}
+use Rattle.model.specs.Sound.{SoundModel}
+use Rattle.ledger.specs.Sound.{Sound}
 use Rattle.ledger.specs.Enrolment.{beginning, Begins}
 
 pub empty-view : view emptyLedger ≡ emptyModel

@@ -1,23 +1,28 @@
--- Laws of what the calls promise: of a refusal, and of a change that keeps the register.
-use Prim.Native.Nat.{ℕ, _-_, _≤_}
-use mathlib.Core.Path.{_≡_, refl, ap}
+-- Laws of what the calls promise: of a refusal, and of a change that keeps the register. Laws of the lists that an array and
+-- a count hold.
+use Prim.Native.Nat.{ℕ, _-_, _≤_, min}
+use mathlib.Core.Path.{_≡_, refl, sym, ap, _∙_}
 use mathlib.Core.Bool.{Bool, not}
+use mathlib.Core.Logic.{⊎-elim}
 use mathlib.Core.List.{List}
 use native.Mathlib.Omega.{arith}
+use borrow.Author.Tests.{leb-true, leb-false}
 use lib.ListN.{length, take}
-use lib.Seq.{length-take-le}
+use lib.Seq.{length-take-le, take-all}
+use lib.Dec.{leb}
 use Rattle.sets.specs.Quantifiers.{keep, count}
-use Rattle.sets.proofs.Quantifiers.{both-ways}
+use Rattle.sets.proofs.Quantifiers.{either-way, both-ways}
 use Rattle.sets.proofs.Keep.{count-keep}
 use Rattle.ledger.specs.declared.Ledger.{Ledger}
-use Rattle.ledger.specs.Model.{view}
-use Rattle.ledger.specs.Answer.{done, refused}
-use Rattle.ledger.specs.Questions.{Outcome, activePlaces, tokenPlaces}
-use Rattle.ledger.specs.Sound.{SoundModel, Sound}
+use Rattle.ledger.specs.State.{view}
+use Rattle.model.specs.Answer.{Answer, done}
+use Rattle.model.specs.Questions.{Outcome, activePlaces, tokenPlaces}
+use Rattle.model.specs.Sound.{SoundModel}
+use Rattle.ledger.specs.Sound.{Sound}
 use Rattle.ledger.specs.Promises.{Gives}
 
 module _ {l : Ledger} {o : Outcome} (sound : Sound l) where
-  pub refuses : {n : ℕ} {vs : List ℕ} → o ≡ record { answer = refused n vs; model = view l } → Gives l o (refused n vs) l
+  pub refuses : {a : Answer} → o ≡ record { answer = a; model = view l } → Gives l o a l
   refuses e = record { answer = rw e; ledger = rw e; unchanged = λ _. refl; sound = sound }
 
   -- a ledger with the register of l, and with counts within its arrays
@@ -39,6 +44,19 @@ module _ {l : Ledger} {o : Outcome} (sound : Sound l) where
               model = rw e at still;
             };
       }
+
+-- a count past the end takes what is there
+pub take-held : {A : Type 0} (l : List A) (n k : ℕ) → length l ≡ k → take (min n k) l ≡ take n l
+take-held l n k long =
+    ⊎-elim
+    (λ e.
+    let h = leb-true n k e in
+    let same : min n k ≡ n = omega arith in
+    rw same)
+    (λ e.
+    let h = leb-false n k e in
+    take-all (min n k) l (omega arith) ∙ sym (take-all n l (omega arith)))
+    (either-way (leb n k))
 
 -- of n elements those that pass are as many as the k that do not are fewer
 pub dropped-count :

@@ -18,8 +18,10 @@ use Rattle.register.specs.Tree.{isTree}
 use Rattle.register.specs.Records.{recordAt}
 use Rattle.register.specs.Form.{recordFits, recordWidths}
 use Rattle.ledger.specs.declared.Ledger.{Ledger}
-use Rattle.ledger.specs.Model.{Model, view}
-use Rattle.ledger.specs.Sound.{SoundRegister, SoundModel, Sound}
+use Rattle.model.specs.Model.{Model}
+use Rattle.ledger.specs.State.{view}
+use Rattle.model.specs.Sound.{SoundRegister, SoundModel}
+use Rattle.ledger.specs.Sound.{Sound}
 use Rattle.ledger.specs.Enrolment.{withRegister, Enrols, rolesFit, recordFit}
 
 pub record RolesFit (m : Model) (s : List ℕ) : Type 0 where

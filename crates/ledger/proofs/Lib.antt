@@ -1,16 +1,4 @@
 pub mod Beginning
-pub mod Questions
-pub mod Lowest
-pub mod Agree
-pub mod Soundness
-pub mod Balance
-pub mod Reordering
-pub mod Covering
-pub mod Clash
-pub mod Saying
-pub mod Order
 pub mod CallLaws
-pub mod WalkLaws
-pub mod BriefLaws
+pub mod AdmitLaws
 pub mod EnrolLaws
-pub mod Cases

@@ -1,10 +1,11 @@
--- Answers in document 01's numbers and values, and what each case of the answers' enums means.
-use Prim.Native.Nat.{ℕ}
-use mathlib.Core.Bool.{Bool, true, false}
-use mathlib.Core.List.{List, [], _∷_}
+-- What each case of the answers' enums means, in document 01's numbers and values.
+use mathlib.Core.List.{[], _∷_}
 use Rattle.sets.specs.Quantifiers.{oneIf}
+use Rattle.model.specs.Answer.{Answer, done, refused}
 use Rattle.ledger.specs.declared.answer.DirectiveRefusal.{DirectiveRefusal}
 use Rattle.ledger.specs.declared.answer.DirectiveRefusal.the-variants as Refusal
+use Rattle.ledger.specs.declared.answer.AdmitAnswer.{AdmitAnswer}
+use Rattle.ledger.specs.declared.answer.AdmitAnswer.the-variants as Admit
 use Rattle.ledger.specs.declared.answer.CommitAnswer.{CommitAnswer}
 use Rattle.ledger.specs.declared.answer.CommitAnswer.the-variants as Commit
 use Rattle.ledger.specs.declared.answer.RevokeAnswer.{RevokeAnswer}
@@ -18,26 +19,6 @@ use Rattle.ledger.specs.declared.answer.BriefAnswer.the-variants as Brie
 use Rattle.ledger.specs.declared.answer.DecideAnswer.{DecideAnswer}
 use Rattle.ledger.specs.declared.answer.DecideAnswer.the-variants as Decide
 
--- Success with its values, or the number of the first question missed with what it adds.
-pub data Answer : Type 0 where
-  done : List ℕ → Answer
-  refused : ℕ → List ℕ → Answer
-
--- the call succeeded
-abbrev pub accepted : Answer → Bool
-accepted (done vs) = true
-accepted (refused n vs) = false
-
--- the number of the question missed, 0 for none
-abbrev pub refusal : Answer → ℕ
-refusal (done vs) = 0
-refusal (refused n vs) = n
-
--- what a success reports
-abbrev pub values : Answer → List ℕ
-values (done vs) = vs
-values (refused n vs) = []
-
 abbrev pub directiveAnswer : DirectiveRefusal → Answer
 directiveAnswer Refusal.OutOfRange = refused 7 []
 directiveAnswer Refusal.NotInRegister = refused 8 []
@@ -46,6 +27,10 @@ directiveAnswer Refusal.NumberTaken = refused 10 []
 directiveAnswer Refusal.ListFull = refused 11 []
 directiveAnswer Refusal.BreaksBaseline = refused 12 []
 directiveAnswer (Refusal.Conflicts n) = refused 13 (n ∷ [])
+
+abbrev pub admitAnswer : AdmitAnswer → Answer
+admitAnswer Admit.Admitted = done []
+admitAnswer (Admit.Refused r) = directiveAnswer r
 
 abbrev pub commitAnswer : CommitAnswer → Answer
 commitAnswer Commit.Committed = done []

@@ -11,7 +11,8 @@ use Rattle.register.specs.Register.{Contents}
 use Rattle.register.specs.Tree.{isTree}
 use Rattle.register.specs.Form.{recordFits}
 use Rattle.ledger.specs.declared.Ledger.{Ledger}
-use Rattle.ledger.specs.Model.{Model, view}
+use Rattle.model.specs.Model.{Model}
+use Rattle.ledger.specs.State.{view}
 use Rattle.ledger.specs.Sound.{Sound}
 
 -- patient and clock, and nothing else

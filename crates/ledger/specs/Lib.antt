@@ -1,13 +1,5 @@
-pub mod Model
+pub mod State
 pub mod Answer
-pub mod Emergency
-pub mod Decision
-pub mod Xacml
-pub mod Questions
-pub mod Calls
-pub mod Compatible
 pub mod Sound
-pub mod Promises
-pub mod Cases
 pub mod Enrolment
-pub mod Lists
+pub mod Promises

@@ -6,17 +6,20 @@ use mathlib.Core.Path.{_≡_}
 use mathlib.Core.Bool.{false}
 use mathlib.Core.List.{List}
 use Rattle.directive.specs.declared.Query.{Query}
+use Rattle.directive.specs.declared.Draft.{Draft}
 use Rattle.ledger.specs.declared.Ledger.{Ledger}
+use Rattle.ledger.specs.declared.answer.AdmitResult.{AdmitResult}
 use Rattle.ledger.specs.declared.answer.CommitResult.{CommitResult}
 use Rattle.ledger.specs.declared.answer.RevokeResult.{RevokeResult}
 use Rattle.ledger.specs.declared.answer.AdvanceResult.{AdvanceResult}
 use Rattle.ledger.specs.declared.answer.IssueResult.{IssueResult}
 use Rattle.ledger.specs.declared.answer.BriefAnswer.{BriefAnswer}
 use Rattle.ledger.specs.declared.answer.DecideAnswer.{DecideAnswer}
-use Rattle.ledger.specs.Model.{view}
-use Rattle.ledger.specs.Answer.{Answer, accepted, commitAnswer, revokeAnswer, advanceAnswer, issueAnswer, briefAnswer, decideAnswer}
-use Rattle.ledger.specs.Questions.{Outcome}
-use Rattle.ledger.specs.Calls.{committed, revoked, advanced, issued, decided, briefed}
+use Rattle.ledger.specs.State.{view}
+use Rattle.model.specs.Answer.{Answer, accepted}
+use Rattle.ledger.specs.Answer.{admitAnswer, commitAnswer, revokeAnswer, advanceAnswer, issueAnswer, briefAnswer, decideAnswer}
+use Rattle.model.specs.Questions.{Outcome}
+use Rattle.model.specs.Calls.{admitted, committed, revoked, advanced, issued, decided, briefed}
 use Rattle.ledger.specs.Sound.{Sound}
 
 -- The answer a and the ledger `after` are those of the outcome o; after a refusal the ledger is l itself.
@@ -25,6 +28,10 @@ pub record Gives (l : Ledger) (o : Outcome) (a : Answer) (after : Ledger) : Type
   pub ledger : view after ≡ o .model
   pub unchanged : accepted a ≡ false → after ≡ l
   pub sound : Sound after
+
+-- a directive put to questions 7 to 13 alone
+abbrev pub Admits : Ledger → Draft → AdmitResult → Type 0
+Admits l s r = Sound l → Gives l (admitted (view l) s) (admitAnswer (r .answer)) (r .ledger)
 
 -- commit of a draft's bytes s
 abbrev pub Commits : Ledger → List ℕ → CommitResult → Type 0

@@ -1,6 +1,5 @@
 // The ledger's calls: each takes a ledger by value and gives its answer, with the ledger after it where it can change.
 use crate::Ledger;
-use crate::Token;
 use crate::answer::AdvanceAnswer;
 use crate::answer::AdvanceResult;
 use crate::answer::BriefAnswer;
@@ -8,22 +7,23 @@ use crate::answer::IssueAnswer;
 use crate::answer::IssueResult;
 use crate::answer::RevokeAnswer;
 use crate::answer::RevokeResult;
-use crate::lists::Found;
+use emergency::Token;
+use lists::finds::Found;
 ghost use Rattle.ledger.specs.Promises.{Revokes, Advances, Issues, Briefs};
 
 // Takes the directive of that number out of the active list; the rest keep their order.
 pub fn revoke(l: Ledger, number: u16) -> RevokeResult
     ensures { λ r. ⌜ Revokes l number r ⌝ }
 {
-    let n = crate::lists::held(l.active_count, 32);
+    let n = lists::walks::held(l.active_count, 32);
     let active = l.active;
-    if !crate::lists::is_active(active, n, number) {
+    if !lists::finds::is_active(active, n, number) {
         return RevokeResult {
             answer: RevokeAnswer::NotActive,
             ledger: l,
         };
     }
-    let rest = crate::lists::without_number(active, n, number);
+    let rest = lists::walks::without_number(active, n, number);
     let mut next = l;
     let items = rest.items;
     next.active = items;
@@ -44,12 +44,12 @@ pub fn advance(l: Ledger, minute: u32) -> AdvanceResult
             ledger: l,
         };
     }
-    let n = crate::lists::held(l.active_count, 32);
+    let n = lists::walks::held(l.active_count, 32);
     let active = l.active;
-    let directives = crate::lists::unexpired(active, n, minute);
-    let m = crate::lists::held(l.token_count, 4);
+    let directives = lists::walks::unexpired(active, n, minute);
+    let m = lists::walks::held(l.token_count, 4);
     let held = l.tokens;
-    let tokens = crate::lists::live(held, m, minute);
+    let tokens = lists::walks::live(held, m, minute);
     let mut next = l;
     next.clock = minute;
     let kept = directives.items;
@@ -95,9 +95,9 @@ pub fn issue(l: Ledger, number: u16, person: u16, states: u8, minutes: u32) -> I
             ledger: l,
         };
     }
-    let n = crate::lists::held(l.token_count, 4);
+    let n = lists::walks::held(l.token_count, 4);
     let tokens = l.tokens;
-    if crate::lists::is_issued(tokens, n, number) {
+    if lists::finds::is_issued(tokens, n, number) {
         return IssueResult {
             answer: IssueAnswer::NumberTaken,
             ledger: l,
@@ -128,13 +128,13 @@ pub fn issue(l: Ledger, number: u16, person: u16, states: u8, minutes: u32) -> I
 pub fn brief(l: Ledger, number: u16, person: u16) -> BriefAnswer
     ensures { λ a. ⌜ Briefs l number person a ⌝ }
 {
-    let n = crate::lists::held(l.token_count, 4);
+    let n = lists::walks::held(l.token_count, 4);
     let tokens = l.tokens;
-    let found = crate::lists::token_states(tokens, n, number, person);
+    let found = lists::finds::token_states(tokens, n, number, person);
     match found {
         Found::States(states) => {
             let g = l.register;
-            let b = crate::emergency::brief_over(g, states);
+            let b = emergency::disclosure::brief_over(g, states);
             BriefAnswer::Disclosed(b)
         }
         Found::Nothing => BriefAnswer::NoToken,

@@ -1,23 +1,17 @@
 // The ledger of one patient: register, clock, active directives and live emergency tokens.
 use directive::Directive;
+use emergency::Token;
 use register::Register;
 ghost use mathlib.Core.Path.{_≡_};
-ghost use Rattle.ledger.specs.Model.{noToken, emptyLedger};
+ghost use Rattle.emergency.specs.Emergency.{noToken};
+ghost use Rattle.ledger.specs.State.{emptyLedger};
 
 pub mod answer;
 pub mod calls;
+pub mod commit;
 pub mod decision;
-pub mod emergency;
 pub mod enrolment;
-mod lists;
 pub mod views;
-
-pub struct Token {
-    pub number: u16,
-    pub person: u16,
-    pub states: u8,
-    pub until: u32,
-}
 
 // What stands past the two counts has no meaning. The fields are private, so that no other crate makes a ledger.
 pub struct Ledger {

@@ -4,7 +4,7 @@ use directive::Directive;
 use register::Register;
 ghost use mathlib.Core.Path.{_≡_};
 ghost use lib.ListN.{length};
-ghost use Rattle.ledger.specs.Model.{view};
+ghost use Rattle.ledger.specs.State.{view};
 
 pub fn patient(l: Ledger) -> u16
     ensures { λ r. ⌜ r ≡ l .patient ⌝ }
@@ -35,18 +35,18 @@ pub fn role_count(l: Ledger) -> usize
     ensures { λ n. ⌜ n ≡ length (view l .register .roles) ⌝ }
 {
     let g = l.register;
-    crate::lists::held(g.role_count, 16)
+    lists::walks::held(g.role_count, 16)
 }
 
 pub fn record_count(l: Ledger) -> usize
     ensures { λ n. ⌜ n ≡ length (view l .register .records) ⌝ }
 {
     let g = l.register;
-    crate::lists::held(g.record_count, 128)
+    lists::walks::held(g.record_count, 128)
 }
 
 pub fn active_count(l: Ledger) -> usize
     ensures { λ n. ⌜ n ≡ length (view l .active) ⌝ }
 {
-    crate::lists::held(l.active_count, 32)
+    lists::walks::held(l.active_count, 32)
 }

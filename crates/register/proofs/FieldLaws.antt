@@ -18,14 +18,20 @@ pub record Put (s : List ℕ) (i : ℕ) (b : List ℕ) (n : ℕ) (t : List ℕ) 
 pub put-first : {s t : List ℕ} (i k v : ℕ) → t ≡ sets s i (bytes k v) → Put s i (bytes k v) k t
 put-first i k v e = record { stored = e; long = length-bytes k v }
 
+-- any bytes after them, and a number's
+pub put-more :
+    {s t u b : List ℕ} {i n : ℕ} (v : List ℕ) →
+    Put s i b n t → u ≡ sets t (i + n) v → Put s i (b ++ v) (n + length v) u
+put-more {s} {b} {i} v p e =
+    record {
+      stored = e ∙ rw (p .stored, ← (p .long)) (sets-append s i b v);
+      long = rw (length-append, p .long);
+    }
+
 pub put-next :
     {s t u b : List ℕ} {i n : ℕ} (k v : ℕ) →
     Put s i b n t → u ≡ sets t (i + n) (bytes k v) → Put s i (b ++ bytes k v) (n + k) u
-put-next {s} {b} {i} k v p e =
-    record {
-      stored = e ∙ rw (p .stored, ← (p .long)) (sets-append s i b (bytes k v));
-      long = rw (length-append, p .long, length-bytes);
-    }
+put-next k v p e = rw (length-bytes k v) at (put-more (bytes k v) p e)
 
 -- b is the first n bytes of s: the number of the k bytes after them writes these
 pub bytes-next :

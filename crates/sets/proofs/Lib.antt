@@ -4,4 +4,5 @@ pub mod Lists
 pub mod Ranges
 pub mod BitLaws
 pub mod WordLaws
+pub mod FillLaws
 pub mod Numbers

@@ -1,9 +1,9 @@
 -- Laws of the numbers below n: tests that agree there, the numbers below n + m in two parts, and tests that no number from n on
 -- passes.
-use Prim.Native.Nat.{ℕ, zero, suc, _+_, _<_, _≤_}
-use mathlib.Core.Path.{_≡_, refl, sym, _∙_}
+use Prim.Native.Nat.{ℕ, zero, suc, _+_, _-_, _<_, _≤_}
+use mathlib.Core.Path.{_≡_, refl, sym, ap, _∙_}
 use mathlib.Core.Bool.{Bool, false, _&&_, _||_, or-assoc, or-false}
-use native.Mathlib.Nat.{add-zero, add-suc}
+use native.Mathlib.Nat.{add-zero, add-suc, add-sub-of-le}
 use native.Mathlib.Numerals.{add-one}
 use native.Mathlib.Decide.{decLt}
 use native.Mathlib.Omega.{arith}
@@ -40,6 +40,19 @@ pub count-split :
 unfolding countBelow
 count-split n zero p = rw (add-zero n) (omega arith)
 count-split n (suc m) p = rw (add-suc, count-split n m p) (omega arith)
+
+-- how many numbers pass a test that none passes from n on
+none-counted : (p : ℕ → Bool) (n : ℕ) → ((k : ℕ) → p k ≡ false) → countBelow n p ≡ 0
+unfolding countBelow
+none-counted p zero f = refl
+none-counted p (suc n) f = rw (none-counted p n f, f n)
+
+pub count-up-to :
+    (p : ℕ → Bool) (n m : ℕ) → n ≤ m → ((k : ℕ) → n ≤ k → p k ≡ false) → countBelow m p ≡ countBelow n p
+count-up-to p n m h f =
+    ap (λ (k : ℕ). countBelow k p) (sym (add-sub-of-le h))
+    ∙ count-split n (m - n) p
+    ∙ rw (none-counted (λ k. p (n + k)) (m - n) (λ k. f (n + k) (omega arith))) (add-zero (countBelow n p))
 
 -- one number more that does not pass
 pub none-more :

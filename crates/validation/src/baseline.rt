@@ -8,8 +8,8 @@ ghost use lib.ListN.{length};
 ghost use Rattle.sets.specs.Quantifiers.{someOf};
 ghost use Rattle.register.specs.Register.{contents};
 ghost use Rattle.directive.specs.Selection.{selects};
-ghost use Rattle.validation.specs.Meaning.{hasBaseline, breaksBaseline};
-ghost use Rattle.validation.specs.Search.{breaksForFound, breaksBaselineFound, Fit};
+ghost use Rattle.meaning.specs.Meaning.{hasBaseline, breaksBaseline};
+ghost use Rattle.meaning.specs.Search.{breaksForFound, breaksBaselineFound, Fit};
 
 // Whether the directive selects a record of which the person has the baseline.
 fn selects_own(g: Register, patient: u16, d: Directive, person: u16) -> bool

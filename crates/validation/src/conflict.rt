@@ -13,9 +13,9 @@ ghost use Rattle.register.specs.Register.{contents};
 ghost use Rattle.register.specs.Roles.{covers};
 ghost use Rattle.directive.specs.Selection.{selects};
 ghost use Rattle.directive.specs.Lowest.{bestOf};
-ghost use Rattle.validation.specs.Meaning.{conflict};
-ghost use Rattle.validation.specs.Search.{subjectsMeet, conflictFound, Fit};
-ghost use Rattle.validation.specs.Active.{AllFit};
+ghost use Rattle.meaning.specs.Meaning.{conflict};
+ghost use Rattle.meaning.specs.Search.{subjectsMeet, conflictFound, Fit};
+ghost use Rattle.meaning.specs.Active.{AllFit};
 
 // Whether some person in some role is covered by both subjects.
 pub fn subjects_meet(g: Register, s: Subject, t: Subject) -> bool

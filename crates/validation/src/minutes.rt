@@ -3,7 +3,7 @@ use directive::Directive;
 ghost use mathlib.Core.Path.{_≡_};
 ghost use Prim.Native.Nat.{max, min};
 ghost use Rattle.directive.specs.Matching.{inMinutes};
-ghost use Rattle.validation.specs.Search.{start};
+ghost use Rattle.meaning.specs.Search.{start};
 
 pub fn latest(a: u32, b: u32) -> u32
     ensures { λ r. ⌜ r ≡ max a b ⌝ }

@@ -1,6 +1,6 @@
 -- The empty ledger is the one defined: each array is filled with what stands where there is nothing.
 use borrow.Author.Needs.{needs}
-use Rattle.ledger.specs.Model.{emptyLedger}
+use Rattle.ledger.specs.State.{emptyLedger}
 use Rattle.ledger.proofs.empty.Statement.{statement}
 use Rattle.ledger.proofs.empty.Tie as tie
 

@@ -15,7 +15,8 @@ use Rattle.register.proofs.ArrayLaws.{long-mapped}
 use Rattle.register.proofs.RecordLaws.{parent-at}
 use Rattle.directive.specs.declared.Directive.{Directive}
 use Rattle.directive.specs.Selection.{selects}
-use Rattle.directive.proofs.SelectLaws.{HasBelow, below-next, below-all, descends, reached, selects-here, selects-past}
+use Rattle.sets.proofs.FillLaws.{HasBelow, below-next, below-all}
+use Rattle.directive.proofs.SelectLaws.{descends, reached, selects-here, selects-past}
 use Rattle.directive.proofs.selection.selected.Statement.{statement}
 use Rattle.directive.proofs.selection.selected.Tie as tie
 

@@ -7,10 +7,10 @@ use lib.ListN.{length}
 use lib.Dec.{leb}
 use Rattle.sets.specs.Quantifiers.{allIn}
 use Rattle.register.proofs.ArrayLaws.{long-mapped}
-use Rattle.ledger.specs.Model.{view}
-use Rattle.ledger.specs.Questions.{firstNo}
-use Rattle.ledger.specs.Calls.{advanced}
-use Rattle.ledger.proofs.Soundness.{sound-advance}
+use Rattle.ledger.specs.State.{view}
+use Rattle.model.specs.Questions.{firstNo}
+use Rattle.model.specs.Calls.{advanced}
+use Rattle.model.proofs.Soundness.{sound-advance}
 use Rattle.ledger.proofs.CallLaws.{refuses, changes, dropped-count}
 use Rattle.ledger.proofs.calls.advance.Statement.{statement}
 use Rattle.ledger.proofs.calls.advance.Tie as tie

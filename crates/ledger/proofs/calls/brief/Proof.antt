@@ -10,15 +10,16 @@ use lib.Dec.{eqb}
 use Rattle.sets.specs.Quantifiers.{someIn, keep}
 use Rattle.sets.proofs.Quantifiers.{either-way}
 use Rattle.register.specs.declared.Record.{Record}
-use Rattle.ledger.specs.declared.Token.{Token}
-use Rattle.ledger.specs.declared.lists.Found.{Found}
-use Rattle.ledger.specs.declared.lists.Found.the-variants.{States, Nothing}
-use Rattle.ledger.specs.Lists.{statesOf}
-use Rattle.ledger.specs.Model.{Model, view}
-use Rattle.ledger.specs.Answer.{done, refused}
-use Rattle.ledger.specs.Emergency.{briefOf}
-use Rattle.ledger.specs.Questions.{firstNo}
-use Rattle.ledger.specs.Calls.{briefBy, briefed}
+use Rattle.emergency.specs.declared.Token.{Token}
+use Rattle.lists.specs.declared.finds.Found.{Found}
+use Rattle.lists.specs.declared.finds.Found.the-variants.{States, Nothing}
+use Rattle.lists.specs.Lists.{statesOf}
+use Rattle.model.specs.Model.{Model}
+use Rattle.ledger.specs.State.{view}
+use Rattle.model.specs.Answer.{done, refused}
+use Rattle.emergency.specs.Emergency.{briefOf}
+use Rattle.model.specs.Questions.{firstNo}
+use Rattle.model.specs.Calls.{briefBy, briefed}
 use Rattle.ledger.proofs.calls.brief.Statement.{statement}
 use Rattle.ledger.proofs.calls.brief.Tie as tie
 

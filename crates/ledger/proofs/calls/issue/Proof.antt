@@ -12,10 +12,10 @@ use lib.Dec.{leb}
 use Rattle.sets.specs.Quantifiers.{allIn}
 use Rattle.sets.specs.Bits.{nonEmpty}
 use Rattle.register.proofs.ArrayLaws.{long-mapped}
-use Rattle.ledger.specs.Model.{view}
-use Rattle.ledger.specs.Questions.{firstNo}
-use Rattle.ledger.specs.Calls.{issued}
-use Rattle.ledger.proofs.Soundness.{sound-issue}
+use Rattle.ledger.specs.State.{view}
+use Rattle.model.specs.Questions.{firstNo}
+use Rattle.model.specs.Calls.{issued}
+use Rattle.model.proofs.Soundness.{sound-issue}
 use Rattle.ledger.proofs.CallLaws.{refuses, changes}
 use Rattle.ledger.proofs.calls.issue.Statement.{statement}
 use Rattle.ledger.proofs.calls.issue.Tie as tie

@@ -4,10 +4,10 @@ use native.Mathlib.Omega.{arith}
 use borrow.Author.Needs.{needs}
 use borrow.Author.Tests.{not-true, not-false}
 use Rattle.sets.specs.Quantifiers.{allIn}
-use Rattle.ledger.specs.Model.{view}
-use Rattle.ledger.specs.Questions.{firstNo}
-use Rattle.ledger.specs.Calls.{revoked}
-use Rattle.ledger.proofs.Soundness.{sound-revoke}
+use Rattle.ledger.specs.State.{view}
+use Rattle.model.specs.Questions.{firstNo}
+use Rattle.model.specs.Calls.{revoked}
+use Rattle.model.proofs.Soundness.{sound-revoke}
 use Rattle.ledger.proofs.CallLaws.{refuses, changes}
 use Rattle.ledger.proofs.calls.revoke.Statement.{statement}
 use Rattle.ledger.proofs.calls.revoke.Tie as tie

@@ -15,11 +15,12 @@ use Rattle.directive.specs.declared.Directive.{Directive}
 use Rattle.directive.specs.declared.Query.{Query}
 use Rattle.directive.specs.declared.lowest.Best.{Best}
 use Rattle.directive.specs.Lowest.{bestOf}
-use Rattle.ledger.specs.Model.{Model, view}
-use Rattle.ledger.specs.Answer.{done, refused}
-use Rattle.ledger.specs.Decision.{Decision, matching, isPatient, isAuthor, byDirectives, decision}
-use Rattle.ledger.specs.Questions.{firstNo, isInRange}
-use Rattle.ledger.specs.Calls.{decided}
+use Rattle.model.specs.Model.{Model}
+use Rattle.ledger.specs.State.{view}
+use Rattle.model.specs.Answer.{done, refused}
+use Rattle.model.specs.Decision.{Decision, matching, isPatient, isAuthor, byDirectives, decision}
+use Rattle.model.specs.Questions.{firstNo, isInRange}
+use Rattle.model.specs.Calls.{decided}
 use Rattle.ledger.proofs.decision.decide.Statement.{statement}
 use Rattle.ledger.proofs.decision.decide.Tie as tie
 

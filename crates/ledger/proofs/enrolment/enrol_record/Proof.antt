@@ -12,7 +12,7 @@ use Rattle.sets.proofs.Quantifiers.{both-ways}
 use Rattle.register.specs.Form.{recordWidths}
 use Rattle.register.proofs.ArrayLaws.{long-mapped}
 use Rattle.register.proofs.CallLaws.{failed, passed}
-use Rattle.ledger.specs.Model.{view}
+use Rattle.ledger.specs.State.{view}
 use Rattle.ledger.specs.Sound.{Sound}
 use Rattle.ledger.proofs.EnrolLaws.{RecordFit, record-fit-make, sound-record, Counted, sound-counted, record-left, enrolled}
 use Rattle.ledger.proofs.enrolment.enrol_record.Statement.{statement}

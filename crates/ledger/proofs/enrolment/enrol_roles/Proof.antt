@@ -11,7 +11,7 @@ use lib.Seq.{take-length, take-suc, take-suc-set}
 use Rattle.sets.proofs.Quantifiers.{both-ways}
 use Rattle.register.proofs.ArrayLaws.{long-mapped}
 use Rattle.register.proofs.CallLaws.{failed, passed}
-use Rattle.ledger.specs.Model.{view}
+use Rattle.ledger.specs.State.{view}
 use Rattle.ledger.specs.Sound.{Sound}
 use Rattle.ledger.proofs.EnrolLaws.{RolesFit, roles-fit-make, sound-roles, Counted, sound-counted, roles-left, enrolled}
 use Rattle.ledger.proofs.enrolment.enrol_roles.Statement.{statement}

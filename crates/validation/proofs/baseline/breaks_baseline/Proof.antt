@@ -6,9 +6,9 @@ use borrow.Author.Needs.{needs}
 use lib.ListN.{length}
 use Rattle.register.specs.Register.{Contents, contents}
 use Rattle.directive.specs.declared.Directive.{Directive}
-use Rattle.validation.specs.Meaning.{breaksBaseline}
-use Rattle.validation.specs.Search.{breaksForFound, breaksBaselineFound, Fit}
-use Rattle.validation.proofs.Exact.{baseline-exact}
+use Rattle.meaning.specs.Meaning.{breaksBaseline}
+use Rattle.meaning.specs.Search.{breaksForFound, breaksBaselineFound, Fit}
+use Rattle.meaning.proofs.Exact.{baseline-exact}
 use Rattle.validation.proofs.baseline.breaks_baseline.Statement.{statement}
 use Rattle.validation.proofs.baseline.breaks_baseline.Tie as tie
 

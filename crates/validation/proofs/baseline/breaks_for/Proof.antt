@@ -8,8 +8,8 @@ use borrow.Author.Tests.{eq-eqb, ne-eqb}
 use Rattle.sets.proofs.Quantifiers.{never-true, both-ways}
 use Rattle.sets.proofs.BitLaws.{some-bits, some-low-bits}
 use Rattle.register.specs.Register.{contents}
-use Rattle.validation.specs.Search.{breaksForFound}
-use Rattle.validation.proofs.BaselineLaws.{FoundFor, found-for-read, found-for-own}
+use Rattle.meaning.specs.Search.{breaksForFound}
+use Rattle.meaning.proofs.BaselineLaws.{FoundFor, found-for-read, found-for-own}
 use Rattle.validation.proofs.baseline.breaks_for.Statement.{statement}
 use Rattle.validation.proofs.baseline.breaks_for.Tie as tie
 

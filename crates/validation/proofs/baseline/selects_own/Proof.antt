@@ -19,7 +19,7 @@ use Rattle.register.specs.Register.{noRecord, contents}
 use Rattle.register.proofs.ArrayLaws.{long-mapped}
 use Rattle.directive.specs.Selection.{selects}
 use Rattle.directive.proofs.SelectLaws.{some-selected}
-use Rattle.validation.specs.Meaning.{hasBaseline}
+use Rattle.meaning.specs.Meaning.{hasBaseline}
 use Rattle.validation.proofs.baseline.selects_own.Statement.{statement}
 use Rattle.validation.proofs.baseline.selects_own.Tie as tie
 

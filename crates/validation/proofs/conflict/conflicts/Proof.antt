@@ -1,6 +1,6 @@
 -- `conflict::conflicts` searches over the records that d selects, and the search is exact.
 use mathlib.Core.Path.{sym, _∙_}
-use Rattle.validation.proofs.Exact.{conflict-exact}
+use Rattle.meaning.proofs.Exact.{conflict-exact}
 use borrow.Author.Needs.{needs}
 use Rattle.validation.proofs.conflict.conflicts.Statement.{statement}
 use Rattle.validation.proofs.conflict.conflicts.Tie as tie

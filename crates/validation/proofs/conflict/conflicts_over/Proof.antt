@@ -12,8 +12,8 @@ use Rattle.register.proofs.ArrayLaws.{long-mapped}
 use Rattle.register.proofs.CallLaws.{failed, passed}
 use Rattle.directive.specs.Selection.{selects}
 use Rattle.directive.proofs.SelectLaws.{some-selected}
-use Rattle.validation.specs.Search.{conflictFound}
-use Rattle.validation.proofs.ConflictLaws.{found-read, found-make}
+use Rattle.meaning.specs.Search.{conflictFound}
+use Rattle.meaning.proofs.ConflictLaws.{found-read, found-make}
 use borrow.Author.Needs.{needs}
 use Rattle.validation.proofs.conflict.conflicts_over.Statement.{statement}
 use Rattle.validation.proofs.conflict.conflicts_over.Tie as tie

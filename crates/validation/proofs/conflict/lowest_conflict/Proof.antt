@@ -15,10 +15,10 @@ use Rattle.directive.specs.declared.Directive.{Directive}
 use Rattle.directive.specs.declared.lowest.Best.{Best}
 use Rattle.directive.specs.Form.{noDirective}
 use Rattle.directive.specs.Lowest.{bestOf}
-use Rattle.validation.specs.Meaning.{conflict}
-use Rattle.validation.specs.Search.{conflictFound, Fit}
-use Rattle.validation.specs.Active.{AllFit}
-use Rattle.validation.proofs.Exact.{conflict-exact}
+use Rattle.meaning.specs.Meaning.{conflict}
+use Rattle.meaning.specs.Search.{conflictFound, Fit}
+use Rattle.meaning.specs.Active.{AllFit}
+use Rattle.meaning.proofs.Exact.{conflict-exact}
 use Rattle.validation.proofs.conflict.lowest_conflict.Statement.{statement}
 use Rattle.validation.proofs.conflict.lowest_conflict.Tie as tie
 

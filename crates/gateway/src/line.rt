@@ -1,0 +1,145 @@
+// The line of an entry's answer: its numbers, before they are printed.
+use crate::entry::EntryAnswer;
+use card::WriteAnswer;
+use ledger::answer::AdvanceAnswer;
+use ledger::answer::BriefAnswer;
+use ledger::answer::CommitAnswer;
+use ledger::answer::DecideAnswer;
+use ledger::answer::DirectiveRefusal;
+use ledger::answer::IssueAnswer;
+use ledger::answer::RevokeAnswer;
+ghost use mathlib.Core.Path.{_≡_};
+ghost use mathlib.Core.List.{[], _∷_};
+ghost use lib.ListN.{take};
+ghost use Rattle.sets.specs.Quantifiers.{oneIf};
+ghost use Rattle.ledger.specs.Answer.{directiveAnswer, commitAnswer, revokeAnswer, advanceAnswer, issueAnswer, briefAnswer, decideAnswer};
+ghost use Rattle.card.specs.Answer.{writeAnswer};
+ghost use Rattle.gateway.specs.Entries.{saidOf, answerLine, lineOf};
+
+// The first `count` of the numbers stand in the line; none do where the entry is malformed.
+pub struct Line {
+    pub numbers: [u64; 4],
+    pub count: usize,
+}
+
+fn line(count: usize, a: u64, b: u64, c: u64, d: u64) -> Line
+    ensures { λ r. ⌜ take (r .count) (r .numbers) ≡ take count (a ∷ b ∷ c ∷ d ∷ []) ⌝ }
+{
+    let numbers = [a, b, c, d];
+    Line {
+        numbers: numbers,
+        count: count,
+    }
+}
+
+fn effect_number(permit: bool) -> u64
+    ensures { λ r. ⌜ r ≡ oneIf permit ⌝ }
+{
+    if permit { 1 } else { 0 }
+}
+
+fn directive_line(why: DirectiveRefusal) -> Line
+    ensures { λ r. ⌜ take (r .count) (r .numbers) ≡ answerLine (directiveAnswer why) ⌝ }
+{
+    match why {
+        DirectiveRefusal::OutOfRange => line(1, 7, 0, 0, 0),
+        DirectiveRefusal::NotInRegister => line(1, 8, 0, 0, 0),
+        DirectiveRefusal::NoMinutes => line(1, 9, 0, 0, 0),
+        DirectiveRefusal::NumberTaken => line(1, 10, 0, 0, 0),
+        DirectiveRefusal::ListFull => line(1, 11, 0, 0, 0),
+        DirectiveRefusal::BreaksBaseline => line(1, 12, 0, 0, 0),
+        DirectiveRefusal::Conflicts(number) => line(2, 13, number as u64, 0, 0),
+    }
+}
+
+fn commit_line(a: CommitAnswer) -> Line
+    ensures { λ r. ⌜ take (r .count) (r .numbers) ≡ answerLine (commitAnswer a) ⌝ }
+{
+    match a {
+        CommitAnswer::Committed => line(1, 0, 0, 0, 0),
+        CommitAnswer::WrongLength => line(1, 6, 0, 0, 0),
+        CommitAnswer::Refused(why) => directive_line(why),
+        CommitAnswer::Redundant => line(1, 14, 0, 0, 0),
+    }
+}
+
+fn revoke_line(a: RevokeAnswer) -> Line
+    ensures { λ r. ⌜ take (r .count) (r .numbers) ≡ answerLine (revokeAnswer a) ⌝ }
+{
+    match a {
+        RevokeAnswer::Revoked => line(1, 0, 0, 0, 0),
+        RevokeAnswer::NotActive => line(1, 15, 0, 0, 0),
+    }
+}
+
+fn advance_line(a: AdvanceAnswer) -> Line
+    ensures { λ r. ⌜ take (r .count) (r .numbers) ≡ answerLine (advanceAnswer a) ⌝ }
+{
+    match a {
+        AdvanceAnswer::Advanced { directives, tokens } => {
+            line(3, 0, directives as u64, tokens as u64, 0)
+        }
+        AdvanceAnswer::BeforeClock => line(1, 16, 0, 0, 0),
+    }
+}
+
+fn issue_line(a: IssueAnswer) -> Line
+    ensures { λ r. ⌜ take (r .count) (r .numbers) ≡ answerLine (issueAnswer a) ⌝ }
+{
+    match a {
+        IssueAnswer::Issued => line(1, 0, 0, 0, 0),
+        IssueAnswer::NoState => line(1, 18, 0, 0, 0),
+        IssueAnswer::WrongMinutes => line(1, 19, 0, 0, 0),
+        IssueAnswer::NumberTaken => line(1, 20, 0, 0, 0),
+        IssueAnswer::TokensFull => line(1, 21, 0, 0, 0),
+    }
+}
+
+fn decide_line(a: DecideAnswer) -> Line
+    ensures { λ r. ⌜ take (r .count) (r .numbers) ≡ answerLine (decideAnswer a) ⌝ }
+{
+    match a {
+        DecideAnswer::Patient => line(3, 0, 1, 1, 0),
+        DecideAnswer::Author => line(3, 0, 1, 2, 0),
+        DecideAnswer::Directive { permit, number } => {
+            line(4, 0, effect_number(permit), 3, number as u64)
+        }
+        DecideAnswer::Default { permit } => line(3, 0, effect_number(permit), 4, 0),
+        DecideAnswer::NotInRegister => line(1, 17, 0, 0, 0),
+    }
+}
+
+fn brief_line(a: BriefAnswer) -> Line
+    ensures { λ r. ⌜ take (r .count) (r .numbers) ≡ answerLine (briefAnswer a) ⌝ }
+{
+    match a {
+        BriefAnswer::Disclosed(b) => line(4, 0, b.low, b.high, b.count as u64),
+        BriefAnswer::NoToken => line(1, 22, 0, 0, 0),
+    }
+}
+
+// The bytes of a written card follow these numbers.
+fn write_line(a: WriteAnswer) -> Line
+    ensures { λ r. ⌜ take (r .count) (r .numbers) ≡ answerLine (writeAnswer a) ⌝ }
+{
+    match a {
+        WriteAnswer::Written(size) => line(2, 0, size as u64, 0, 0),
+        WriteAnswer::NoRecord => line(1, 23, 0, 0, 0),
+        WriteAnswer::BufferTooShort => line(1, 24, 0, 0, 0),
+    }
+}
+
+pub fn line_of(a: EntryAnswer) -> Line
+    ensures { λ r. ⌜ take (r .count) (r .numbers) ≡ lineOf (saidOf a) ⌝ }
+{
+    match a {
+        EntryAnswer::Commit(b) => commit_line(b),
+        EntryAnswer::Revoke(b) => revoke_line(b),
+        EntryAnswer::Advance(b) => advance_line(b),
+        EntryAnswer::Issue(b) => issue_line(b),
+        EntryAnswer::Decide(b) => decide_line(b),
+        EntryAnswer::Brief(b) => brief_line(b),
+        EntryAnswer::Write(b) => write_line(b),
+        EntryAnswer::Malformed => line(0, 0, 0, 0, 0),
+    }
+}
