@@ -1,4 +1,1 @@
-pub mod Runs
-pub mod Counts
-pub mod Demands
 pub mod Entries

@@ -1,3 +1,3 @@
-// Lists of calls on the ledger of a card: the demands on the gateway, stated in specs/, and one call of a replay.
+// One call of a replay on a ledger, and the line of its answer.
 pub mod entry;
 pub mod line;

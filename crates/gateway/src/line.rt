@@ -22,7 +22,7 @@ pub struct Line {
     pub count: usize,
 }
 
-fn line(count: usize, a: u64, b: u64, c: u64, d: u64) -> Line
+fn numbered(count: usize, a: u64, b: u64, c: u64, d: u64) -> Line
     ensures { λ r. ⌜ take (r .count) (r .numbers) ≡ take count (a ∷ b ∷ c ∷ d ∷ []) ⌝ }
 {
     let numbers = [a, b, c, d];
@@ -42,13 +42,13 @@ fn directive_line(why: DirectiveRefusal) -> Line
     ensures { λ r. ⌜ take (r .count) (r .numbers) ≡ answerLine (directiveAnswer why) ⌝ }
 {
     match why {
-        DirectiveRefusal::OutOfRange => line(1, 7, 0, 0, 0),
-        DirectiveRefusal::NotInRegister => line(1, 8, 0, 0, 0),
-        DirectiveRefusal::NoMinutes => line(1, 9, 0, 0, 0),
-        DirectiveRefusal::NumberTaken => line(1, 10, 0, 0, 0),
-        DirectiveRefusal::ListFull => line(1, 11, 0, 0, 0),
-        DirectiveRefusal::BreaksBaseline => line(1, 12, 0, 0, 0),
-        DirectiveRefusal::Conflicts(number) => line(2, 13, number as u64, 0, 0),
+        DirectiveRefusal::OutOfRange => numbered(1, 7, 0, 0, 0),
+        DirectiveRefusal::NotInRegister => numbered(1, 8, 0, 0, 0),
+        DirectiveRefusal::NoMinutes => numbered(1, 9, 0, 0, 0),
+        DirectiveRefusal::NumberTaken => numbered(1, 10, 0, 0, 0),
+        DirectiveRefusal::ListFull => numbered(1, 11, 0, 0, 0),
+        DirectiveRefusal::BreaksBaseline => numbered(1, 12, 0, 0, 0),
+        DirectiveRefusal::Conflicts(number) => numbered(2, 13, number as u64, 0, 0),
     }
 }
 
@@ -56,10 +56,10 @@ fn commit_line(a: CommitAnswer) -> Line
     ensures { λ r. ⌜ take (r .count) (r .numbers) ≡ answerLine (commitAnswer a) ⌝ }
 {
     match a {
-        CommitAnswer::Committed => line(1, 0, 0, 0, 0),
-        CommitAnswer::WrongLength => line(1, 6, 0, 0, 0),
+        CommitAnswer::Committed => numbered(1, 0, 0, 0, 0),
+        CommitAnswer::WrongLength => numbered(1, 6, 0, 0, 0),
         CommitAnswer::Refused(why) => directive_line(why),
-        CommitAnswer::Redundant => line(1, 14, 0, 0, 0),
+        CommitAnswer::Redundant => numbered(1, 14, 0, 0, 0),
     }
 }
 
@@ -67,8 +67,8 @@ fn revoke_line(a: RevokeAnswer) -> Line
     ensures { λ r. ⌜ take (r .count) (r .numbers) ≡ answerLine (revokeAnswer a) ⌝ }
 {
     match a {
-        RevokeAnswer::Revoked => line(1, 0, 0, 0, 0),
-        RevokeAnswer::NotActive => line(1, 15, 0, 0, 0),
+        RevokeAnswer::Revoked => numbered(1, 0, 0, 0, 0),
+        RevokeAnswer::NotActive => numbered(1, 15, 0, 0, 0),
     }
 }
 
@@ -77,9 +77,9 @@ fn advance_line(a: AdvanceAnswer) -> Line
 {
     match a {
         AdvanceAnswer::Advanced { directives, tokens } => {
-            line(3, 0, directives as u64, tokens as u64, 0)
+            numbered(3, 0, directives as u64, tokens as u64, 0)
         }
-        AdvanceAnswer::BeforeClock => line(1, 16, 0, 0, 0),
+        AdvanceAnswer::BeforeClock => numbered(1, 16, 0, 0, 0),
     }
 }
 
@@ -87,11 +87,11 @@ fn issue_line(a: IssueAnswer) -> Line
     ensures { λ r. ⌜ take (r .count) (r .numbers) ≡ answerLine (issueAnswer a) ⌝ }
 {
     match a {
-        IssueAnswer::Issued => line(1, 0, 0, 0, 0),
-        IssueAnswer::NoState => line(1, 18, 0, 0, 0),
-        IssueAnswer::WrongMinutes => line(1, 19, 0, 0, 0),
-        IssueAnswer::NumberTaken => line(1, 20, 0, 0, 0),
-        IssueAnswer::TokensFull => line(1, 21, 0, 0, 0),
+        IssueAnswer::Issued => numbered(1, 0, 0, 0, 0),
+        IssueAnswer::NoState => numbered(1, 18, 0, 0, 0),
+        IssueAnswer::WrongMinutes => numbered(1, 19, 0, 0, 0),
+        IssueAnswer::NumberTaken => numbered(1, 20, 0, 0, 0),
+        IssueAnswer::TokensFull => numbered(1, 21, 0, 0, 0),
     }
 }
 
@@ -99,13 +99,13 @@ fn decide_line(a: DecideAnswer) -> Line
     ensures { λ r. ⌜ take (r .count) (r .numbers) ≡ answerLine (decideAnswer a) ⌝ }
 {
     match a {
-        DecideAnswer::Patient => line(3, 0, 1, 1, 0),
-        DecideAnswer::Author => line(3, 0, 1, 2, 0),
+        DecideAnswer::Patient => numbered(3, 0, 1, 1, 0),
+        DecideAnswer::Author => numbered(3, 0, 1, 2, 0),
         DecideAnswer::Directive { permit, number } => {
-            line(4, 0, effect_number(permit), 3, number as u64)
+            numbered(4, 0, effect_number(permit), 3, number as u64)
         }
-        DecideAnswer::Default { permit } => line(3, 0, effect_number(permit), 4, 0),
-        DecideAnswer::NotInRegister => line(1, 17, 0, 0, 0),
+        DecideAnswer::Default { permit } => numbered(3, 0, effect_number(permit), 4, 0),
+        DecideAnswer::NotInRegister => numbered(1, 17, 0, 0, 0),
     }
 }
 
@@ -113,8 +113,8 @@ fn brief_line(a: BriefAnswer) -> Line
     ensures { λ r. ⌜ take (r .count) (r .numbers) ≡ answerLine (briefAnswer a) ⌝ }
 {
     match a {
-        BriefAnswer::Disclosed(b) => line(4, 0, b.low, b.high, b.count as u64),
-        BriefAnswer::NoToken => line(1, 22, 0, 0, 0),
+        BriefAnswer::Disclosed(b) => numbered(4, 0, b.low, b.high, b.count as u64),
+        BriefAnswer::NoToken => numbered(1, 22, 0, 0, 0),
     }
 }
 
@@ -123,9 +123,9 @@ fn write_line(a: WriteAnswer) -> Line
     ensures { λ r. ⌜ take (r .count) (r .numbers) ≡ answerLine (writeAnswer a) ⌝ }
 {
     match a {
-        WriteAnswer::Written(size) => line(2, 0, size as u64, 0, 0),
-        WriteAnswer::NoRecord => line(1, 23, 0, 0, 0),
-        WriteAnswer::BufferTooShort => line(1, 24, 0, 0, 0),
+        WriteAnswer::Written(size) => numbered(2, 0, size as u64, 0, 0),
+        WriteAnswer::NoRecord => numbered(1, 23, 0, 0, 0),
+        WriteAnswer::BufferTooShort => numbered(1, 24, 0, 0, 0),
     }
 }
 
@@ -140,6 +140,6 @@ pub fn line_of(a: EntryAnswer) -> Line
         EntryAnswer::Decide(b) => decide_line(b),
         EntryAnswer::Brief(b) => brief_line(b),
         EntryAnswer::Write(b) => write_line(b),
-        EntryAnswer::Malformed => line(0, 0, 0, 0, 0),
+        EntryAnswer::Malformed => numbered(0, 0, 0, 0, 0),
     }
 }

@@ -20,9 +20,9 @@ use Rattle.model.specs.Compatible.{compatible, Reordered}
 use Rattle.ledger.specs.Sound.{Sound}
 use Rattle.ledger.specs.Promises.{Decides}
 use Rattle.model.proofs.Order.{order-model}
-use Rattle.gateway.specs.Runs.{Run, committing, advancing, more}
-use Rattle.gateway.specs.Demands.{effectAndBasis}
-use Rattle.gateway.proofs.Runs.{run-sound, run-model}
+use Rattle.demands.specs.Runs.{Run, committing, advancing, more}
+use Rattle.demands.specs.Demands.{effectAndBasis}
+use Rattle.demands.proofs.Runs.{run-sound, run-model}
 
 -- what is committed is bytes, and a minute is of 32 bits
 committed-bytes :

@@ -13,9 +13,9 @@ use Rattle.model.specs.Calls.{Call, commit, revoke, advance, issue, calledBy}
 use Rattle.model.specs.Sound.{SoundModel}
 use Rattle.ledger.specs.Sound.{Sound}
 use Rattle.model.proofs.Balance.{commit-active, revoke-active, advance-active, issue-active}
-use Rattle.gateway.specs.Runs.{Run, ended, more}
-use Rattle.gateway.specs.Counts.{total, acceptedOne, revokedOne, expiredOf}
-use Rattle.gateway.proofs.Runs.{called-gives}
+use Rattle.demands.specs.Runs.{Run, ended, more}
+use Rattle.demands.specs.Counts.{total, acceptedOne, revokedOne, expiredOf}
+use Rattle.demands.proofs.Runs.{called-gives}
 
 call-balance :
     (m : Model) → SoundModel m → (c : Call) →

@@ -1,10 +1,10 @@
 -- Demand 2: decisions, briefs and cards are those of document 01, the directives say what XACML 3.0 says, and cards make their
 -- round trips.
 use Rattle.ledger.specs.State.{view}
-use Rattle.gateway.specs.Demands.{Demand2}
-use Rattle.gateway.proofs.Runs.{meant-sound}
-use Rattle.gateway.proofs.Cards.{read-written, written-read}
-use Rattle.gateway.proofs.Combining.{by-deny-overrides, by-permit-overrides, by-combined}
+use Rattle.demands.specs.Demands.{Demand2}
+use Rattle.demands.proofs.Runs.{meant-sound}
+use Rattle.demands.proofs.Cards.{read-written, written-read}
+use Rattle.demands.proofs.Combining.{by-deny-overrides, by-permit-overrides, by-combined}
 
 pub demand2 : Demand2
 demand2 =

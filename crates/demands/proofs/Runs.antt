@@ -9,7 +9,7 @@ use Rattle.model.specs.Calls.{Call, calledBy, modelAfter, answers}
 use Rattle.ledger.specs.Sound.{Sound}
 use Rattle.ledger.specs.Promises.{Gives}
 use Rattle.ledger.proofs.Beginning.{empty-sound}
-use Rattle.gateway.specs.Runs.{Called, committing, revoking, advancing, issuing, Run, ended, more, Meant, empty, reading, calling}
+use Rattle.demands.specs.Runs.{Called, committing, revoking, advancing, issuing, Run, ended, more, Meant, empty, reading, calling}
 
 pub called-gives :
     {l m : Ledger} {c : Call} {a : Answer} → Sound l → Called l c a m → Gives l (calledBy meant (view l) c) a m

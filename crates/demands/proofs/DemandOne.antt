@@ -11,9 +11,9 @@ use Rattle.model.specs.Calls.{committedBy, revoked, advanced, issued, decided, 
 use Rattle.ledger.specs.Promises.{Gives}
 use Rattle.model.proofs.Questions.{first-passed}
 use Rattle.card.specs.Writing.{writing, buffered}
-use Rattle.gateway.specs.Demands.{FirstMissed, Answered, Succeeds, Demand1}
-use Rattle.gateway.proofs.Passing.{first-missed, missed-fails}
-use Rattle.gateway.proofs.Runs.{meant-sound}
+use Rattle.demands.specs.Demands.{FirstMissed, Answered, Succeeds, Demand1}
+use Rattle.demands.proofs.Passing.{first-missed, missed-fails}
+use Rattle.demands.proofs.Runs.{meant-sound}
 
 -- the answer is the one after the questions or their first "no", and a refusal hands back what was handed in
 module _ {S : Type 0} {qs : List Question} {met : Answer → S → Type 0} {before after : S} {a : Answer} where

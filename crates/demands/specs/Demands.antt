@@ -38,8 +38,8 @@ use Rattle.card.specs.Answer.{readAnswer, writeAnswer}
 use Rattle.card.specs.Reading.{cardQuestions, contentOf, reading, writtenEdition}
 use Rattle.card.specs.Writing.{writeQuestions, cardBytes, writing, buffered}
 use Rattle.card.specs.Promises.{Reads, Writes}
-use Rattle.gateway.specs.Runs.{Run, Meant}
-use Rattle.gateway.specs.Counts.{total, acceptedOne, revokedOne, expiredOf}
+use Rattle.demands.specs.Runs.{Run, Meant}
+use Rattle.demands.specs.Counts.{total, acceptedOne, revokedOne, expiredOf}
 
 -- The first question of a list that is missed.
 pub data FirstMissed : List Question → Question → Type 0 where

@@ -30,7 +30,7 @@ use Rattle.model.specs.Calls.{drafted, committedBy, committed}
 use Rattle.ledger.specs.Sound.{Sound}
 use Rattle.ledger.specs.Promises.{Commits}
 use Rattle.model.proofs.Questions.{first-append, first-passed}
-use Rattle.gateway.specs.Demands.{opposed, matchedByActive, refusedWith, Exact}
+use Rattle.demands.specs.Demands.{opposed, matchedByActive, refusedWith, Exact}
 
 module _ (m : Model) (d : Directive) where
   -- one of the active conflicts with d

@@ -5,7 +5,7 @@ use mathlib.Core.List.{List}
 use Rattle.sets.specs.Quantifiers.{allIn}
 use Rattle.model.specs.Answer.{Answer, refused}
 use Rattle.model.specs.Questions.{Question, firstNo, passes}
-use Rattle.gateway.specs.Demands.{FirstMissed, here, later}
+use Rattle.demands.specs.Demands.{FirstMissed, here, later}
 
 pub first-missed :
     {qs : List Question} {q : Question} → FirstMissed qs q → (a : Answer) → firstNo qs a ≡ refused (q .number) (q .adds)

@@ -1,12 +1,12 @@
 -- Demand 3, clause by clause, of the ledger after any list of calls on the ledger of an accepted card.
 use Rattle.ledger.specs.State.{view}
 use Rattle.model.proofs.Clash.{no-clash-at}
-use Rattle.gateway.specs.Demands.{Demand3}
-use Rattle.gateway.proofs.Runs.{run-sound, run-model}
-use Rattle.gateway.proofs.Counting.{run-balance}
-use Rattle.gateway.proofs.Exactness.{draft-exact}
-use Rattle.gateway.proofs.Decisions.{decided-kept, patient-permitted, author-permitted}
-use Rattle.gateway.proofs.Ordering.{order-kept}
+use Rattle.demands.specs.Demands.{Demand3}
+use Rattle.demands.proofs.Runs.{run-sound, run-model}
+use Rattle.demands.proofs.Counting.{run-balance}
+use Rattle.demands.proofs.Exactness.{draft-exact}
+use Rattle.demands.proofs.Decisions.{decided-kept, patient-permitted, author-permitted}
+use Rattle.demands.proofs.Ordering.{order-kept}
 
 pub demand3 : Demand3
 demand3 card r cs rs l _ _ reads run =

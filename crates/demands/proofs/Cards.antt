@@ -24,8 +24,8 @@ use Rattle.card.specs.Writing.{writeQuestions, cardBytes, writing, buffered}
 use Rattle.card.specs.Promises.{Reads, Writes}
 use Rattle.card.proofs.ReadSound.{some-in, filled}
 use Rattle.card.proofs.RoundTrip.{a-record-read, read-back, write-back}
-use Rattle.gateway.specs.Runs.{Meant}
-use Rattle.gateway.proofs.Runs.{meant-sound}
+use Rattle.demands.specs.Runs.{Meant}
+use Rattle.demands.proofs.Runs.{meant-sound}
 
 -- a write that passes its questions puts the card at the start of the buffer
 card-in-front :

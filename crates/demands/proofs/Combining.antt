@@ -26,8 +26,8 @@ use Rattle.ledger.specs.Promises.{Decides}
 use Rattle.model.proofs.Lowest.{lowest-is}
 use Rattle.model.proofs.Clash.{no-clash-at}
 use Rattle.model.proofs.Saying.{in-range-now, said-effect}
-use Rattle.gateway.specs.Demands.{effectAndBasis, effectValues}
-use Rattle.gateway.proofs.Decisions.{decided-kept}
+use Rattle.demands.specs.Demands.{effectAndBasis, effectValues}
+use Rattle.demands.proofs.Decisions.{decided-kept}
 
 module _ {A : Type 0} (p : A → Bool) where
   -- what is kept is of the list, and passes
