@@ -6,8 +6,5 @@ pub mod Accepted
 pub mod ReadSound
 pub mod Written
 pub mod ReadBack
-pub mod WriteLaws
 pub mod WriteBack
 pub mod RoundTrip
-pub mod ReaderLaws
-pub mod AtPlace

@@ -3,5 +3,4 @@ pub mod Form
 pub mod Grammar
 pub mod Reading
 pub mod Writing
-pub mod Reader
 pub mod Promises

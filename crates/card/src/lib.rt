@@ -1,11 +1,8 @@
-// The consent card: the answers of reading and writing it.
+// The consent card: the answers of reading and writing it, and the bytes of its head.
 use ledger::Ledger;
 use ledger::answer::DirectiveRefusal;
 
-pub mod check;
 pub mod form;
-pub mod read;
-pub mod write;
 
 pub enum ReadAnswer {
     Accepted,

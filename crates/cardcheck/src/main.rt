@@ -6,7 +6,7 @@ use libc::STDOUT_FILENO;
 fn main() {
     let mut input = [0u8; 65535];
     let n = io::read_full(STDIN_FILENO, &mut input);
-    let line = card::check::check(&input[..n]);
+    let line = reading::check::check(&input[..n]);
     io::print_decimal(STDOUT_FILENO, line.refusal);
     io::write_all(STDOUT_FILENO, &[b' ']);
     io::print_decimal(STDOUT_FILENO, line.records as u64);

@@ -53,7 +53,7 @@ fn write_into(l: Ledger, size: usize, buffer: &mut [u8]) -> WriteAnswer
     } else {
         buffer.len()
     };
-    card::write::write(l, &mut buffer[..n])
+    writing::write::write(l, &mut buffer[..n])
 }
 
 // The call of this tag and value, on this ledger; a write is lent the start of the buffer.

@@ -46,8 +46,8 @@ fn start(value: &mut [u8; 65535]) -> Turn {
             goes_on: false,
         };
     }
-    let r = card::read::read(&value[..size]);
-    let line = card::check::line_of(r);
+    let r = reading::read::read(&value[..size]);
+    let line = reading::check::line_of(r);
     io::print_decimal(STDOUT_FILENO, line.refusal);
     print_blank();
     io::print_decimal(STDOUT_FILENO, line.records as u64);

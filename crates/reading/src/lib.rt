@@ -1,0 +1,3 @@
+// Reading a card, and the line that tells of it.
+pub mod check;
+pub mod read;

@@ -1,0 +1,142 @@
+-- Laws of writing a card field by field: what is written after what stands before it.
+use Prim.Native.Nat.{ℕ, zero, suc, _+_, _*_, _<_, _≤_}
+use mathlib.Core.Path.{_≡_, refl, ap, _∙_}
+use mathlib.Core.Bool.{true}
+use mathlib.Core.List.{List, [], _∷_}
+use native.Mathlib.Nat.{min-le-right, zero-add}
+use native.Mathlib.Numerals.{add-one}
+use native.Mathlib.Omega.{arith}
+use borrow.Author.Tests.{eq-eqb, ne-eqb, le-leb, lt-leb}
+use lib.Dec.{leb}
+use lib.ListN.{length, take, getD, length-take}
+use lib.Seq.{sets, sets-eq, length-take-le, length-sets, take-suc}
+use Rattle.sets.specs.Quantifiers.{allIn}
+use Rattle.sets.specs.Numbers.{bytes}
+use Rattle.sets.proofs.Numbers.{length-bytes}
+use Rattle.register.proofs.FieldLaws.{Put, put-more}
+use Rattle.ledger.specs.declared.Ledger.{Ledger}
+use Rattle.model.specs.Model.{Model}
+use Rattle.ledger.specs.State.{view}
+use Rattle.model.specs.Questions.{firstNo}
+use Rattle.card.specs.Form.{headBytes}
+use Rattle.card.specs.Grammar.{field}
+use Rattle.card.specs.Writing.{writtenHead, recordFields, directiveFields, cardBytes, writing, buffered}
+use Rattle.card.specs.declared.WriteAnswer.the-variants.{Written, NoRecord, BufferTooShort}
+use Rattle.card.specs.Promises.{Fills}
+use Rattle.card.proofs.Fields.{length-field}
+use Rattle.card.proofs.FormLaws.{length-head}
+use Rattle.card.proofs.Written.{OneEach, one-a-record, fields-snoc, fields-length, record-field-size, length-card}
+
+-- a field is its tag and the length of its value, and then the value
+pub put-field :
+    {t u : List ℕ} (s : List ℕ) (i tag n : ℕ) (v : List ℕ) → length v ≡ n →
+    t ≡ sets s i (tag ∷ bytes 2 n) → u ≡ sets t (i + 3) v → u ≡ sets s i (field tag v)
+put-field {t} s i tag n v long e f =
+    let front : Put s i (tag ∷ bytes 2 (length v)) 3 t = record { stored = rw long e; long = rw length-bytes } in
+    put-more v front f .stored
+
+-- the first k of n turns were taken: t is s with the fields of the first k of l from place i on
+pub record Filled {A : Type 0} (fields : List A → List ℕ) (l : List A) (n : ℕ) (s : List ℕ) (i k : ℕ) (t : List ℕ) : Type 0 where
+  pub held : n ≤ length l
+  pub up-to : k ≤ n
+  pub stored : t ≡ sets s i (fields (take k l))
+  pub long : length t ≡ length s
+
+module _ {A : Type 0} {fields : List A → List ℕ} {oneIf : A → List ℕ} (each : OneEach fields oneIf) where
+  pub filled-none : (l : List A) (n : ℕ) → n ≤ length l → (s : List ℕ) (i : ℕ) → Filled fields l n s i 0 s
+  filled-none l n h s i = record { held = h; up-to = omega arith; stored = rw (each .none); long = refl }
+
+  -- the next field, of m bytes, stands after the k before
+  pub filled-next :
+      {l : List A} {n : ℕ} {s t u : List ℕ} {i k : ℕ} (m : ℕ) → ((a : A) → length (oneIf a) ≡ m) → (d : A) →
+      Filled fields l n s i k t → k < n → u ≡ sets t (i + m * k) (oneIf (getD l k d)) →
+      Filled fields l n s i (k + 1) u
+  filled-next {l} {s} {t} {i} {k} m size d p h e =
+      let few : k ≤ length l = omega (arith, p .held, p .up-to) in
+      let before : Put s i (fields (take k l)) (m * k) t =
+      record { stored = p .stored; long = fields-length each m size (take k l) ∙ rw (length-take-le k l few) } in
+      record {
+        held = p .held;
+        up-to = omega arith;
+        stored =
+            rw (add-one k, take-suc l k d (omega (arith, p .held)), fields-snoc each)
+            (put-more (oneIf (getD l k d)) before e .stored);
+        long = rw e (length-sets t (i + m * k) (oneIf (getD l k d)) ∙ p .long);
+      }
+
+pub filled-all :
+    {A : Type 0} {fields : List A → List ℕ} {l : List A} {n : ℕ} {s t : List ℕ} {i k : ℕ} →
+    Filled fields l n s i k t → n ≤ k → t ≡ sets s i (fields (take n l))
+filled-all {n} {k} p h =
+    let e : k ≡ n = omega (arith, p .up-to) in
+    rw e at (p .stored)
+
+-- an array that holds a list: at most as long, and as many elements of it are the list
+pub take-most : {A : Type 0} (n : ℕ) (l : List A) → length (take n l) ≤ length l
+take-most n l = rw length-take (min-le-right n (length l))
+
+pub take-held : {A : Type 0} (n : ℕ) (l : List A) → take (length (take n l)) l ≡ take n l
+take-held zero l = refl
+take-held (suc n) [] = refl
+take-held (suc n) (x ∷ l) = ap (λ r. x ∷ r) (take-held n l)
+
+-- head, roles, records and directives, one after another, are the card
+module _ (m : Model) where
+  abbrev atRecords : ℕ
+  atRecords = 13 + length (m .register .roles)
+
+  abbrev atDirectives : ℕ
+  atDirectives = atRecords + 13 * length (m .register .records)
+
+  pub card-size : length (cardBytes m) ≡ atDirectives + 28 * length (m .active)
+  card-size = omega (arith, length-card m)
+
+  pub put-card :
+      {t u v w : List ℕ} (s : List ℕ) →
+      t ≡ sets s 0 (field 0x01 (headBytes (writtenHead m))) →
+      u ≡ sets t 10 (field 0x02 (m .register .roles)) →
+      v ≡ sets u atRecords (recordFields (m .register .records)) →
+      w ≡ sets v atDirectives (directiveFields (m .active)) →
+      w ≡ sets s 0 (cardBytes m)
+  unfolding cardBytes
+  put-card {t} {v} {w} s e f g h =
+      let start = headBytes (writtenHead m) in
+      let ps = m .register .roles in
+      let rs = m .register .records in
+      let to-head : Put s 0 (field 0x01 start) 10 t =
+      record { stored = e; long = length-field 0x01 start ∙ rw (length-head (writtenHead m)) } in
+      let to-roles = put-more (field 0x02 ps) to-head f in
+      let at-records : 0 + (10 + length (field 0x02 ps)) ≡ atRecords = omega (arith, length-field 0x02 ps) in
+      let to-records = put-more {u = v} (recordFields rs) to-roles (rw at-records g) in
+      let at-directives : 0 + (10 + length (field 0x02 ps) + length (recordFields rs)) ≡ atDirectives =
+      omega (arith, length-field 0x02 ps, fields-length one-a-record 13 record-field-size rs) in
+      put-more {u = w} (directiveFields (m .active)) to-records (rw at-directives h) .stored
+
+-- What writing answers, and the buffer after it: where there is no record, where the card does not fit, and where it does.
+module _ {l : Ledger} {before : List ℕ} where
+  pub fills-none : length (view l .register .records) ≡ 0 → Fills l before NoRecord before
+  unfolding writing firstNo buffered allIn
+  fills-none e =
+      let empty = eq-eqb (length (view l .register .records)) 0 e in
+      record { answer = rw empty; buffer = rw empty }
+
+  module _ (some : length (view l .register .records) ≡ 0 → ⊥) where
+    pub fills-short : length before < length (cardBytes (view l)) → Fills l before BufferTooShort before
+    unfolding writing firstNo buffered allIn
+    fills-short h =
+        let full = ne-eqb (length (view l .register .records)) 0 some in
+        let short = lt-leb (length (cardBytes (view l))) (length before) h in
+        record { answer = rw (full, short); buffer = rw (full, short) }
+
+    pub fills-written :
+        {after : List ℕ} (n : ℕ) → n ≡ length (cardBytes (view l)) → n ≤ length before →
+        after ≡ sets before 0 (cardBytes (view l)) → Fills l before (Written n) after
+    unfolding writing firstNo buffered allIn
+    fills-written n e h stored =
+        let card = cardBytes (view l) in
+        let full = ne-eqb (length (view l .register .records)) 0 some in
+        let fits : leb (length card) (length before) ≡ true = le-leb _ _ (rw e at h) in
+        record {
+          answer = rw (full, fits, e);
+          buffer = rw (full, fits) (stored ∙ sets-eq card before 0 (omega arith) ∙ rw (zero-add (length card)));
+        }

@@ -1,0 +1,2 @@
+// Writing a card.
+pub mod write;
