@@ -18,8 +18,8 @@ use Rattle.register.specs.Records.{recordAt}
 use Rattle.register.specs.Form.{recordSize, recordBytes, recordFits, recordWidths}
 use Rattle.register.proofs.FormLaws.{length-record, record-decode-encode}
 use Rattle.directive.specs.declared.Directive.{Directive}
-use Rattle.directive.specs.Form.{draftSize, directiveBytes, wellFormed}
-use Rattle.directive.proofs.FormLaws.{length-directive, decode-encode, ranges-kept}
+use Rattle.drafts.specs.Form.{draftSize, directiveBytes, wellFormed}
+use Rattle.drafts.proofs.FormLaws.{length-directive, decode-encode, ranges-kept}
 use Rattle.meaning.specs.Meaning.{conflict}
 use Rattle.meaning.specs.Judgement.{meant}
 use Rattle.meaning.proofs.ConflictLaws.{conflict-sym}

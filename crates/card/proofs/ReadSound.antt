@@ -21,7 +21,7 @@ use Rattle.register.specs.Records.{recordAt}
 use Rattle.register.specs.Form.{recordOf, recordFits, recordWidths}
 use Rattle.register.proofs.FormLaws.{record-widths}
 use Rattle.directive.specs.declared.Directive.{Directive}
-use Rattle.directive.specs.Form.{everyPurpose, withPurposes}
+use Rattle.drafts.specs.Form.{everyPurpose, withPurposes}
 use Rattle.meaning.specs.Judgement.{meant}
 use Rattle.model.specs.Model.{Model, emptyModel}
 use Rattle.model.specs.Answer.{done}

@@ -12,8 +12,8 @@ use Rattle.sets.specs.Numbers.{numberAt, isBytes}
 use Rattle.sets.proofs.Quantifiers.{both-ways, and-left, and-right}
 use Rattle.register.specs.Form.{recordSize, recordOf}
 use Rattle.register.proofs.FormLaws.{record-encode-decode}
-use Rattle.directive.specs.Form.{draftSize, draftOf, keepsRanges, directiveOf}
-use Rattle.directive.proofs.FormLaws.{encode-decode}
+use Rattle.drafts.specs.Form.{draftSize, draftOf, keepsRanges, directiveOf}
+use Rattle.drafts.proofs.FormLaws.{encode-decode}
 use Rattle.meaning.specs.Judgement.{meant}
 use Rattle.model.specs.Questions.{passes, directiveQuestions}
 use Rattle.card.specs.Grammar.{Tag, head, roles, item, directive, other, tagOf, field, fieldTag, fieldValue, afterField}

@@ -17,8 +17,8 @@ use Rattle.register.specs.declared.Record.{Record}
 use Rattle.register.specs.Form.{recordBytes}
 use Rattle.register.proofs.FormLaws.{length-record, record-are-bytes}
 use Rattle.directive.specs.declared.Directive.{Directive}
-use Rattle.directive.specs.Form.{directiveBytes}
-use Rattle.directive.proofs.FormLaws.{length-directive, directive-are-bytes}
+use Rattle.drafts.specs.Form.{directiveBytes}
+use Rattle.drafts.proofs.FormLaws.{length-directive, directive-are-bytes}
 use Rattle.model.specs.Model.{Model}
 use Rattle.model.specs.Sound.{SoundModel}
 use Rattle.card.specs.Grammar.{field}

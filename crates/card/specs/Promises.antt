@@ -12,11 +12,13 @@ use Rattle.card.specs.Answer.{readAnswer, writeAnswer}
 use Rattle.card.specs.Reading.{reading}
 use Rattle.card.specs.Writing.{writing, buffered}
 
--- Reading any bytes: the answer and the ledger are the definition's; a refused card gives the empty ledger.
+-- Reading any bytes: the answer and the ledger's view are the definition's; a refused card gives the empty ledger itself. What
+-- stands past a count of an accepted card's ledger is free.
 abbrev pub Reads : List ℕ → ReadResult → Type 0
 Reads card r = Gives emptyLedger (reading card) (readAnswer (r .answer)) (r .ledger)
 
--- Writing a sound ledger into a lent buffer: the answer, and every byte of the buffer after it.
+-- Writing a sound ledger into a lent buffer: the answer, and every byte of the buffer after it. On a ledger that is not sound
+-- both are free.
 pub record Fills (l : Ledger) (before : List ℕ) (a : WriteAnswer) (after : List ℕ) : Type 0 where
   pub answer : writeAnswer a ≡ writing (view l) before
   pub buffer : after ≡ buffered (view l) before

@@ -8,8 +8,8 @@ use Rattle.sets.specs.Quantifiers.{pick}
 use Rattle.register.specs.Register.{Contents}
 use Rattle.register.specs.Tree.{isTree}
 use Rattle.register.specs.Form.{recordSize, recordOf, recordFits}
-use Rattle.directive.specs.declared.Draft.{Draft}
-use Rattle.directive.specs.Form.{draftSize, firstEditionSize, draftOf, withPurposes, directiveOf}
+use Rattle.drafts.specs.declared.Draft.{Draft}
+use Rattle.drafts.specs.Form.{draftSize, firstEditionSize, draftOf, withPurposes, directiveOf}
 use Rattle.meaning.specs.Judgement.{Judgement, meant}
 use Rattle.model.specs.Model.{Model, withActive, emptyModel}
 use Rattle.model.specs.Answer.{done, refusal}

@@ -8,7 +8,7 @@ use Rattle.sets.specs.Quantifiers.{pick}
 use Rattle.register.specs.declared.Record.{Record}
 use Rattle.register.specs.Form.{recordBytes}
 use Rattle.directive.specs.declared.Directive.{Directive}
-use Rattle.directive.specs.Form.{directiveBytes}
+use Rattle.drafts.specs.Form.{directiveBytes}
 use Rattle.model.specs.Model.{Model}
 use Rattle.model.specs.Answer.{Answer, done}
 use Rattle.model.specs.Questions.{Question, ask, firstNo, passes}

@@ -123,8 +123,12 @@ module _
 pub by-combined :
     (l : Ledger) → Sound l → (q : Query) (a : DecideAnswer) → q .person < persons → Decides l q a →
     passes (decideQuestions (view l) q) ≡ true → isPatient (view l) q ≡ false → isAuthor (view l) q ≡ false →
-    effectAndBasis a ≡ effectValues (effectOf (view l) q (denyOverrides (results (view l) q)))
+    (effectAndBasis a ≡ effectValues (effectOf (view l) q (denyOverrides (results (view l) q))))
+    × (effectAndBasis a ≡ effectValues (effectOf (view l) q (permitOverrides (results (view l) q))))
 unfolding decision
 by-combined l h q a person decides passed stranger reader =
-    rw (decided-kept l h q a decides passed, stranger, reader, ← by-deny-overrides (view l) (h .model) q person passed)
-    (said-effect (view l) q (matching (view l) q))
+    let said : effectAndBasis a ≡ effectValues (effectOf (view l) q (directivesSay (matching (view l) q))) =
+    rw (decided-kept l h q a decides passed, stranger, reader) (said-effect (view l) q (matching (view l) q)) in (
+      rw (← (by-deny-overrides (view l) (h .model) q person passed)) said,
+      rw (← (by-permit-overrides (view l) (h .model) q person passed)) said,
+    )

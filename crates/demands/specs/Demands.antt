@@ -130,11 +130,13 @@ pub record Demand2 : Type 0 where
   pub permit-overrides :
       (l : Ledger) (q : Query) → Meant l → q .person < persons → passes (decideQuestions (view l) q) ≡ true →
       directivesSay (matching (view l) q) ≡ permitOverrides (results (view l) q)
-  -- "outside the baseline a combined NotApplicable leads to basis 4", and another result to its effect and basis 3.
+  -- "outside the baseline a combined NotApplicable leads to basis 4", and another result to its effect and basis 3, whichever
+  -- of the two combines.
   pub combined :
       (l : Ledger) (q : Query) (a : DecideAnswer) → Meant l → q .person < persons → Decides l q a →
       passes (decideQuestions (view l) q) ≡ true → isPatient (view l) q ≡ false → isAuthor (view l) q ≡ false →
-      effectAndBasis a ≡ effectValues (effectOf (view l) q (denyOverrides (results (view l) q)))
+      (effectAndBasis a ≡ effectValues (effectOf (view l) q (denyOverrides (results (view l) q))))
+      × (effectAndBasis a ≡ effectValues (effectOf (view l) q (permitOverrides (results (view l) q))))
   -- "Reading a written card restores its patient, register, clock and directives"; a card has no tokens.
   pub read-written :
       (l : Ledger) (before : List ℕ) (a : WriteAnswer) (after : List ℕ) (r : ReadResult) →

@@ -1,4 +1,4 @@
 pub mod Selection
 pub mod Matching
-pub mod Form
+pub mod Nothing
 pub mod Lowest

@@ -13,6 +13,11 @@ use Rattle.directive.specs.declared.Request.{Request}
 use Rattle.directive.specs.declared.Query.{Query}
 use Rattle.directive.specs.Selection.{selects}
 
+-- the person or the role that a subject names
+abbrev pub numberOf : Subject → ℕ
+numberOf (Person n) = n
+numberOf (Role n) = n
+
 -- "The subject is either one person or one role with all roles that it covers": it covers person p in role r.
 abbrev pub subjectCovers : List ℕ → Subject → ℕ → ℕ → Bool
 subjectCovers roles (Person n) p r = eqb n p

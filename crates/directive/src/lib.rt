@@ -1,8 +1,7 @@
 // Directives and requests.
 ghost use mathlib.Core.Path.{_≡_};
-ghost use Rattle.directive.specs.Form.{noDirective};
+ghost use Rattle.directive.specs.Nothing.{noDirective};
 
-pub mod form;
 pub mod lowest;
 pub mod matching;
 pub mod selection;
@@ -46,23 +45,6 @@ pub struct Query {
     pub origin: u8,
     pub record: u8,
     pub purpose: u8,
-}
-
-// The numbers that the 25 bytes of a directive write, whatever they are.
-pub struct Draft {
-    pub number: u16,
-    pub effect: u8,
-    pub subject_kind: u8,
-    pub subject: u16,
-    pub subject_origins: u16,
-    pub record: u8,
-    pub reach: u8,
-    pub origins: u16,
-    pub sensitivities: u16,
-    pub kinds: u8,
-    pub purposes: u16,
-    pub from: u32,
-    pub until: u32,
 }
 
 // What fills a place that holds no directive.

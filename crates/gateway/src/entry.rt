@@ -48,11 +48,7 @@ fn query_of(v: &[u8]) -> Query
 fn write_into(l: Ledger, size: usize, buffer: &mut [u8]) -> WriteAnswer
     ensures { λ a. ⌜ Lends l size (now (buffer .entry)) a (now (buffer .exit)) ⌝ }
 {
-    let n = if size <= buffer.len() {
-        size
-    } else {
-        buffer.len()
-    };
+    let n = lists::walks::held(size, buffer.len());
     writing::write::write(l, &mut buffer[..n])
 }
 

@@ -10,11 +10,13 @@ use ledger::answer::IssueAnswer;
 use ledger::answer::RevokeAnswer;
 ghost use mathlib.Core.Path.{_≡_};
 ghost use mathlib.Core.List.{[], _∷_};
+ghost use Prim.Native.Nat.{_≤_};
 ghost use lib.ListN.{take};
 ghost use Rattle.sets.specs.Quantifiers.{oneIf};
 ghost use Rattle.ledger.specs.Answer.{directiveAnswer, commitAnswer, revokeAnswer, advanceAnswer, issueAnswer, briefAnswer, decideAnswer};
 ghost use Rattle.card.specs.Answer.{writeAnswer};
-ghost use Rattle.gateway.specs.Entries.{saidOf, answerLine, lineOf};
+ghost use Rattle.model.specs.Answer.{answerLine};
+ghost use Rattle.gateway.specs.Entries.{saidOf, lineOf, Shows};
 
 // The first `count` of the numbers stand in the line; none do where the entry is malformed.
 pub struct Line {
@@ -23,7 +25,8 @@ pub struct Line {
 }
 
 fn numbered(count: usize, a: u64, b: u64, c: u64, d: u64) -> Line
-    ensures { λ r. ⌜ take (r .count) (r .numbers) ≡ take count (a ∷ b ∷ c ∷ d ∷ []) ⌝ }
+    requires { ⌜ count ≤ 4 ⌝ }
+    ensures { λ r. ⌜ Shows r (take count (a ∷ b ∷ c ∷ d ∷ [])) ⌝ }
 {
     let numbers = [a, b, c, d];
     Line {
@@ -39,7 +42,7 @@ fn effect_number(permit: bool) -> u64
 }
 
 fn directive_line(why: DirectiveRefusal) -> Line
-    ensures { λ r. ⌜ take (r .count) (r .numbers) ≡ answerLine (directiveAnswer why) ⌝ }
+    ensures { λ r. ⌜ Shows r (answerLine (directiveAnswer why)) ⌝ }
 {
     match why {
         DirectiveRefusal::OutOfRange => numbered(1, 7, 0, 0, 0),
@@ -53,7 +56,7 @@ fn directive_line(why: DirectiveRefusal) -> Line
 }
 
 fn commit_line(a: CommitAnswer) -> Line
-    ensures { λ r. ⌜ take (r .count) (r .numbers) ≡ answerLine (commitAnswer a) ⌝ }
+    ensures { λ r. ⌜ Shows r (answerLine (commitAnswer a)) ⌝ }
 {
     match a {
         CommitAnswer::Committed => numbered(1, 0, 0, 0, 0),
@@ -64,7 +67,7 @@ fn commit_line(a: CommitAnswer) -> Line
 }
 
 fn revoke_line(a: RevokeAnswer) -> Line
-    ensures { λ r. ⌜ take (r .count) (r .numbers) ≡ answerLine (revokeAnswer a) ⌝ }
+    ensures { λ r. ⌜ Shows r (answerLine (revokeAnswer a)) ⌝ }
 {
     match a {
         RevokeAnswer::Revoked => numbered(1, 0, 0, 0, 0),
@@ -73,7 +76,7 @@ fn revoke_line(a: RevokeAnswer) -> Line
 }
 
 fn advance_line(a: AdvanceAnswer) -> Line
-    ensures { λ r. ⌜ take (r .count) (r .numbers) ≡ answerLine (advanceAnswer a) ⌝ }
+    ensures { λ r. ⌜ Shows r (answerLine (advanceAnswer a)) ⌝ }
 {
     match a {
         AdvanceAnswer::Advanced { directives, tokens } => {
@@ -84,7 +87,7 @@ fn advance_line(a: AdvanceAnswer) -> Line
 }
 
 fn issue_line(a: IssueAnswer) -> Line
-    ensures { λ r. ⌜ take (r .count) (r .numbers) ≡ answerLine (issueAnswer a) ⌝ }
+    ensures { λ r. ⌜ Shows r (answerLine (issueAnswer a)) ⌝ }
 {
     match a {
         IssueAnswer::Issued => numbered(1, 0, 0, 0, 0),
@@ -96,7 +99,7 @@ fn issue_line(a: IssueAnswer) -> Line
 }
 
 fn decide_line(a: DecideAnswer) -> Line
-    ensures { λ r. ⌜ take (r .count) (r .numbers) ≡ answerLine (decideAnswer a) ⌝ }
+    ensures { λ r. ⌜ Shows r (answerLine (decideAnswer a)) ⌝ }
 {
     match a {
         DecideAnswer::Patient => numbered(3, 0, 1, 1, 0),
@@ -110,7 +113,7 @@ fn decide_line(a: DecideAnswer) -> Line
 }
 
 fn brief_line(a: BriefAnswer) -> Line
-    ensures { λ r. ⌜ take (r .count) (r .numbers) ≡ answerLine (briefAnswer a) ⌝ }
+    ensures { λ r. ⌜ Shows r (answerLine (briefAnswer a)) ⌝ }
 {
     match a {
         BriefAnswer::Disclosed(b) => numbered(4, 0, b.low, b.high, b.count as u64),
@@ -120,7 +123,7 @@ fn brief_line(a: BriefAnswer) -> Line
 
 // The bytes of a written card follow these numbers.
 fn write_line(a: WriteAnswer) -> Line
-    ensures { λ r. ⌜ take (r .count) (r .numbers) ≡ answerLine (writeAnswer a) ⌝ }
+    ensures { λ r. ⌜ Shows r (answerLine (writeAnswer a)) ⌝ }
 {
     match a {
         WriteAnswer::Written(size) => numbered(2, 0, size as u64, 0, 0),
@@ -130,7 +133,7 @@ fn write_line(a: WriteAnswer) -> Line
 }
 
 pub fn line_of(a: EntryAnswer) -> Line
-    ensures { λ r. ⌜ take (r .count) (r .numbers) ≡ lineOf (saidOf a) ⌝ }
+    ensures { λ r. ⌜ Shows r (lineOf (saidOf a)) ⌝ }
 {
     match a {
         EntryAnswer::Commit(b) => commit_line(b),

@@ -7,9 +7,9 @@ use borrow.Author.Tests.{ltb-true, eq-eqb}
 use lib.ListN.{length}
 use Rattle.sets.specs.Quantifiers.{allIn}
 use Rattle.sets.proofs.Quantifiers.{and-left, and-right}
-use Rattle.directive.specs.declared.Draft.{Draft}
-use Rattle.directive.specs.Form.{draftSize, draftOf}
-use Rattle.directive.proofs.FormLaws.{Widths}
+use Rattle.drafts.specs.declared.Draft.{Draft}
+use Rattle.drafts.specs.Form.{draftSize, draftOf}
+use Rattle.drafts.proofs.FormLaws.{Widths}
 use Rattle.meaning.specs.Search.{redundantFound}
 use Rattle.meaning.specs.Judgement.{Judgement, meant}
 use Rattle.meaning.specs.Found.{found}

@@ -1,4 +1,4 @@
--- How a card's ledger comes about, step by step: each step keeps a ledger sound.
+-- How a card's ledger comes about, step by step: each step keeps a ledger sound. What stands past a count is free.
 use Prim.Native.Nat.{ℕ}
 use mathlib.Core.Path.{_≡_}
 use mathlib.Core.Bool.{Bool, false, _&&_, not}

@@ -6,7 +6,7 @@ use mathlib.Core.Path.{_≡_}
 use mathlib.Core.Bool.{false}
 use mathlib.Core.List.{List}
 use Rattle.directive.specs.declared.Query.{Query}
-use Rattle.directive.specs.declared.Draft.{Draft}
+use Rattle.drafts.specs.declared.Draft.{Draft}
 use Rattle.ledger.specs.declared.Ledger.{Ledger}
 use Rattle.ledger.specs.declared.answer.AdmitResult.{AdmitResult}
 use Rattle.ledger.specs.declared.answer.CommitResult.{CommitResult}

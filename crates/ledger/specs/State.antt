@@ -1,7 +1,7 @@
 -- The ledger's view as lists; the empty ledger.
 use lib.ListN.{take, replicate}
 use Rattle.register.specs.Register.{contents, emptyRegister}
-use Rattle.directive.specs.Form.{noDirective}
+use Rattle.directive.specs.Nothing.{noDirective}
 use Rattle.emergency.specs.Emergency.{noToken}
 use Rattle.model.specs.Model.{Model}
 use Rattle.ledger.specs.declared.Ledger.{Ledger}

@@ -6,8 +6,8 @@ use crate::answer::CommitAnswer;
 use crate::answer::CommitResult;
 use crate::answer::DirectiveRefusal;
 use directive::Directive;
-use directive::Draft;
 use directive::Subject;
+use drafts::Draft;
 use register::Register;
 ghost use mathlib.Core.Path.{_≡_};
 ghost use mathlib.Core.List.{[], _∷_, _++_};
@@ -25,10 +25,10 @@ ghost use Rattle.ledger.specs.Promises.{Admits, Commits};
 fn asked(l: Ledger, s: Draft) -> AdmitAnswer
     ensures { λ a. ⌜ admitAnswer a ≡ firstNo (directiveQuestions found (view l) s) (done []) ⌝ }
 {
-    if !directive::form::keeps_ranges(s) {
+    if !drafts::form::keeps_ranges(s) {
         return AdmitAnswer::Refused(DirectiveRefusal::OutOfRange);
     }
-    let d = directive::form::directive_of(s);
+    let d = drafts::form::directive_of(s);
     let g = l.register;
     if !lists::ranges::in_register(g, d) {
         return AdmitAnswer::Refused(DirectiveRefusal::NotInRegister);
@@ -75,7 +75,7 @@ pub fn admit(l: Ledger, s: Draft) -> AdmitResult
     match answer {
         AdmitAnswer::Admitted => AdmitResult {
             answer: AdmitAnswer::Admitted,
-            ledger: with_last(l, directive::form::directive_of(s)),
+            ledger: with_last(l, drafts::form::directive_of(s)),
         },
         AdmitAnswer::Refused(why) => AdmitResult {
             answer: AdmitAnswer::Refused(why),
@@ -94,11 +94,11 @@ pub fn commit(l: Ledger, draft: &[u8]) -> CommitResult
             ledger: l,
         };
     }
-    let s = directive::form::draft_of(draft);
+    let s = drafts::form::draft_of(draft);
     let answer = asked(l, s);
     match answer {
         AdmitAnswer::Admitted => {
-            let d = directive::form::directive_of(s);
+            let d = drafts::form::directive_of(s);
             let g = l.register;
             let active = l.active;
             if redundancy::search::is_redundant(g, l.clock, d, active, l.active_count) {

@@ -13,7 +13,8 @@ pub mod decision;
 pub mod enrolment;
 pub mod views;
 
-// What stands past the two counts has no meaning. The fields are private, so that no other crate makes a ledger.
+// What stands past the two counts has no meaning. The fields are private, so that no other crate makes a ledger
+// that is not sound.
 pub struct Ledger {
     patient: u16,
     clock: u32,

@@ -13,8 +13,7 @@ use Rattle.directive.specs.declared.Subject.the-variants.{Person, Role}
 use Rattle.directive.specs.declared.Directive.{Directive}
 use Rattle.directive.specs.declared.Request.{Request}
 use Rattle.directive.specs.Selection.{selects}
-use Rattle.directive.specs.Matching.{subjectCovers, inMinutes, matches}
-use Rattle.directive.specs.Form.{numberOf}
+use Rattle.directive.specs.Matching.{subjectCovers, inMinutes, matches, numberOf}
 use Rattle.directive.proofs.MatchLaws.{in-minutes-read, in-minutes-make, matches-read, matches-make}
 use Rattle.meaning.specs.Requests.{persons, origins, purposes, request, InRange}
 use Rattle.meaning.specs.Meaning.{sameEffect, covered, redundant}

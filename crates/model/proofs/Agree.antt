@@ -15,9 +15,10 @@ use Rattle.register.specs.Register.{Contents}
 use Rattle.directive.specs.declared.Subject.{Subject}
 use Rattle.directive.specs.declared.Subject.the-variants.{Person, Role}
 use Rattle.directive.specs.declared.Directive.{Directive}
-use Rattle.directive.specs.declared.Draft.{Draft}
-use Rattle.directive.specs.Form.{draftOf, directiveOf, numberOf, wellFormed}
-use Rattle.directive.proofs.FormLaws.{subject-number, Widths, bytes-wide}
+use Rattle.drafts.specs.declared.Draft.{Draft}
+use Rattle.drafts.specs.Form.{draftOf, directiveOf, wellFormed}
+use Rattle.directive.specs.Matching.{numberOf}
+use Rattle.drafts.proofs.FormLaws.{subject-number, Widths, bytes-wide}
 use Rattle.meaning.specs.Requests.{persons, minutes}
 use Rattle.meaning.specs.Meaning.{conflict}
 use Rattle.meaning.specs.Search.{conflictFound, SubjectIn, Fit}

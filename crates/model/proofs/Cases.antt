@@ -14,7 +14,7 @@ use Rattle.register.specs.Roles.{covers}
 use Rattle.register.specs.Records.{reaches}
 use Rattle.directive.specs.Selection.{passesFilters, selects}
 use Rattle.directive.specs.Matching.{matches}
-use Rattle.directive.specs.Form.{draftOf, keepsRanges, directiveOf, directiveBytes, wellFormed}
+use Rattle.drafts.specs.Form.{draftOf, keepsRanges, directiveOf, directiveBytes, wellFormed}
 use Rattle.meaning.specs.Requests.{persons}
 use Rattle.meaning.specs.Search.{overlap, conflictFound, breaksBaselineFound, admits, redundantFound}
 use Rattle.meaning.specs.Judgement.{meant}
@@ -22,11 +22,12 @@ use Rattle.meaning.specs.Found.{found}
 use Rattle.model.specs.Model.{Model}
 use Rattle.emergency.specs.Emergency.{scope, disclosed, briefWord, briefCount}
 use Rattle.directive.specs.Lowest.{lowest}
+use Rattle.model.specs.Answer.{answerLine}
 use Rattle.model.specs.Decision.{decision}
 use Rattle.model.specs.Questions.{firstNo, directiveQuestions, draftQuestions}
 use Rattle.model.specs.Calls.{committedBy, advanced, issued, decided, briefed, drafted, commit, revoke, advance, issue}
 use Rattle.model.specs.Sound.{stands}
-use Rattle.model.specs.Cases.{Item, call, deciding, briefing, itemBy, line, linesBy, Step, Case, run, selection, sampleRecords, sample, Holds, drafting, cases, CasesHold}
+use Rattle.model.specs.Cases.{Item, call, deciding, briefing, itemBy, linesBy, Step, Case, run, selection, sampleRecords, sample, Holds, drafting, cases, CasesHold}
 use Rattle.model.proofs.Agree.{Searchable, searchable-of, committed-agree}
 
 -- the search can judge what is put to m
@@ -93,7 +94,7 @@ runs m [] = true
 runs m (s ∷ ss) =
     searchable m
     && written (s .item)
-    && sameList eqb (line (itemBy found m (s .item) .answer)) (s .gives)
+    && sameList eqb (answerLine (itemBy found m (s .item) .answer)) (s .gives)
     && runs (itemBy found m (s .item) .model) ss
 
 runs-read : (m : Model) (ss : List Step) → runs m ss ≡ true → linesBy meant m (map (λ s. s .item) ss) ≡ map (λ s. s .gives) ss

@@ -17,7 +17,7 @@ use Rattle.register.specs.Register.{Contents}
 use Rattle.directive.specs.declared.Directive.{Directive}
 use Rattle.directive.specs.declared.Request.{Request}
 use Rattle.directive.specs.Matching.{matches}
-use Rattle.directive.specs.Form.{draftSize, draftOf, keepsRanges}
+use Rattle.drafts.specs.Form.{draftSize, draftOf, keepsRanges}
 use Rattle.meaning.specs.Requests.{InRange}
 use Rattle.meaning.specs.Meaning.{conflict, breaksBaseline, redundant}
 use Rattle.meaning.specs.Judgement.{meant}

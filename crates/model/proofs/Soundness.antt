@@ -14,9 +14,9 @@ use Rattle.sets.proofs.Quantifiers.{not-less, and-left, and-right}
 use Rattle.sets.proofs.Lists.{all-snoc, apart-snoc, some-alike}
 use Rattle.sets.proofs.Keep.{keep-short, all-keep, pairwise-keep}
 use Rattle.directive.specs.declared.Directive.{Directive}
-use Rattle.directive.specs.declared.Draft.{Draft}
-use Rattle.directive.specs.Form.{draftSize, draftOf, directiveOf, wellFormed}
-use Rattle.directive.proofs.FormLaws.{Widths, bytes-wide, draft-formed}
+use Rattle.drafts.specs.declared.Draft.{Draft}
+use Rattle.drafts.specs.Form.{draftSize, draftOf, directiveOf, wellFormed}
+use Rattle.drafts.proofs.FormLaws.{Widths, bytes-wide, draft-formed}
 use Rattle.meaning.specs.Meaning.{conflict, breaksBaseline}
 use Rattle.meaning.specs.Judgement.{meant}
 use Rattle.meaning.proofs.ConflictLaws.{conflict-sym, conflict-later}

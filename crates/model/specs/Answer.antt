@@ -1,7 +1,7 @@
 -- Answers in document 01's numbers and values.
 use Prim.Native.Nat.{ℕ}
 use mathlib.Core.Bool.{Bool, true, false}
-use mathlib.Core.List.{List, []}
+use mathlib.Core.List.{List, [], _∷_}
 
 -- Success with its values, or the number of the first question missed with what it adds.
 pub data Answer : Type 0 where
@@ -22,3 +22,8 @@ refusal (refused n vs) = n
 abbrev pub values : Answer → List ℕ
 values (done vs) = vs
 values (refused n vs) = []
+
+-- an answer as a line of numbers: the question missed (0 for none), then the values
+abbrev pub answerLine : Answer → List ℕ
+answerLine (done vs) = 0 ∷ vs
+answerLine (refused n vs) = n ∷ vs

@@ -8,8 +8,8 @@ use Rattle.sets.specs.Quantifiers.{keep, count}
 use Rattle.register.specs.declared.Record.{Record}
 use Rattle.directive.specs.declared.Directive.{Directive}
 use Rattle.directive.specs.declared.Query.{Query}
-use Rattle.directive.specs.declared.Draft.{Draft}
-use Rattle.directive.specs.Form.{draftOf, directiveOf}
+use Rattle.drafts.specs.declared.Draft.{Draft}
+use Rattle.drafts.specs.Form.{draftOf, directiveOf}
 use Rattle.meaning.specs.Judgement.{Judgement, meant}
 use Rattle.emergency.specs.declared.Token.{Token}
 use Rattle.model.specs.Model.{Model, withActive, withTokens}

@@ -8,10 +8,10 @@ use Rattle.directive.specs.declared.Subject.{Subject}
 use Rattle.directive.specs.declared.Subject.the-variants.{Person, Role}
 use Rattle.directive.specs.declared.Query.{Query}
 use Rattle.directive.specs.Selection.{selects}
-use Rattle.directive.specs.Form.{everyPurpose, directiveBytes}
+use Rattle.drafts.specs.Form.{everyPurpose, directiveBytes}
 use Rattle.meaning.specs.Judgement.{Judgement, meant}
 use Rattle.model.specs.Model.{Model}
-use Rattle.model.specs.Answer.{Answer, done, refused}
+use Rattle.model.specs.Answer.{Answer, answerLine}
 use Rattle.model.specs.Questions.{Outcome}
 use Rattle.model.specs.Calls.{Call, commit, advance, issue, calledBy, decided, briefed, drafted}
 
@@ -26,15 +26,10 @@ itemBy j m (call c) = calledBy j m c
 itemBy j m (deciding q) = record { answer = decided m q; model = m }
 itemBy j m (briefing n p) = record { answer = briefed m n p; model = m }
 
--- an answer as a line of numbers: the question missed (0 for none), then the values
-abbrev pub line : Answer → List ℕ
-line (done vs) = 0 ∷ vs
-line (refused n vs) = n ∷ vs
-
 -- the lines of the items, one after the other
 unfoldable pub linesBy : Judgement → Model → List Item → List (List ℕ)
 linesBy j m [] = []
-linesBy j m (i ∷ is) = line (itemBy j m i .answer) ∷ linesBy j (itemBy j m i .model) is
+linesBy j m (i ∷ is) = answerLine (itemBy j m i .answer) ∷ linesBy j (itemBy j m i .model) is
 
 -- An item with the line that it must give.
 pub record Step : Type 0 where

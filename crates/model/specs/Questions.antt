@@ -13,8 +13,8 @@ use Rattle.directive.specs.declared.Subject.{Subject}
 use Rattle.directive.specs.declared.Subject.the-variants.{Person, Role}
 use Rattle.directive.specs.declared.Directive.{Directive}
 use Rattle.directive.specs.declared.Query.{Query}
-use Rattle.directive.specs.declared.Draft.{Draft}
-use Rattle.directive.specs.Form.{draftSize, draftOf, keepsRanges, directiveOf}
+use Rattle.drafts.specs.declared.Draft.{Draft}
+use Rattle.drafts.specs.Form.{draftSize, draftOf, keepsRanges, directiveOf}
 use Rattle.meaning.specs.Requests.{origins, purposes}
 use Rattle.meaning.specs.Judgement.{Judgement}
 use Rattle.model.specs.Model.{Model}

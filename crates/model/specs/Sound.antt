@@ -12,7 +12,7 @@ use Rattle.register.specs.Tree.{isTree}
 use Rattle.register.specs.Records.{recordAt}
 use Rattle.register.specs.Form.{recordFits, recordWidths}
 use Rattle.directive.specs.declared.Directive.{Directive}
-use Rattle.directive.specs.Form.{wellFormed}
+use Rattle.drafts.specs.Form.{wellFormed}
 use Rattle.meaning.specs.Meaning.{conflict, breaksBaseline}
 use Rattle.emergency.specs.declared.Token.{Token}
 use Rattle.model.specs.Model.{Model}

@@ -1,7 +1,7 @@
 // Reading a card, field by field: each field's value is handed on as that part of the card.
 use card::ReadAnswer;
 use card::ReadResult;
-use directive::Draft;
+use drafts::Draft;
 use ledger::Ledger;
 use ledger::answer::AdmitAnswer;
 ghost use mathlib.Core.Path.{_≡_};
@@ -166,9 +166,9 @@ fn directive_draft(edition: u8, v: &[u8]) -> Draft
     ensures { λ d. ⌜ d ≡ directiveDraft edition (now (v .entry)) ⌝ }
 {
     if edition == 1 {
-        return directive::form::first_edition(v);
+        return drafts::form::first_edition(v);
     }
-    directive::form::draft_of(v)
+    drafts::form::draft_of(v)
 }
 
 fn read_directive(reader: Reader, v: &[u8]) -> Step

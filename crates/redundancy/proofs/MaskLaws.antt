@@ -22,7 +22,7 @@ use Rattle.register.specs.Roles.{covers}
 use Rattle.directive.specs.declared.Subject.{Subject}
 use Rattle.directive.specs.declared.Subject.the-variants.{Person, Role}
 use Rattle.directive.specs.declared.Directive.{Directive}
-use Rattle.directive.specs.Form.{noDirective}
+use Rattle.directive.specs.Nothing.{noDirective}
 use Rattle.redundancy.specs.declared.tables.Rows.{Rows}
 use Rattle.meaning.specs.Search.{standsFor, boundaries}
 use Rattle.redundancy.specs.Masks.{Filled, RowsOf, MasksAt}

@@ -22,7 +22,7 @@ use Rattle.sets.proofs.BitLaws.{bit-and, bit-zero, set-bit, set-bound, shares-a
 use Rattle.sets.proofs.WordLaws.{contains-low, contains-high, contains-words}
 use Rattle.register.specs.Register.{Contents}
 use Rattle.directive.specs.declared.Directive.{Directive}
-use Rattle.directive.specs.Form.{noDirective}
+use Rattle.directive.specs.Nothing.{noDirective}
 use Rattle.directive.specs.Selection.{selects}
 use Rattle.directive.specs.Matching.{inMinutes}
 use Rattle.directive.proofs.SelectLaws.{selects-past}

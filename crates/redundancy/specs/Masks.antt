@@ -13,7 +13,7 @@ use Rattle.sets.specs.Words.{contains, wordsOf}
 use Rattle.sets.specs.declared.words.Words.{Words}
 use Rattle.register.specs.Register.{Contents}
 use Rattle.directive.specs.declared.Directive.{Directive}
-use Rattle.directive.specs.Form.{noDirective}
+use Rattle.directive.specs.Nothing.{noDirective}
 use Rattle.directive.specs.Selection.{selects}
 use Rattle.directive.specs.Matching.{inMinutes}
 use Rattle.redundancy.specs.declared.tables.Rows.{Rows}

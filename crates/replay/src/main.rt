@@ -6,6 +6,8 @@ use gateway::line::Line;
 use ledger::Ledger;
 use libc::STDIN_FILENO;
 use libc::STDOUT_FILENO;
+ghost use Prim.Native.Nat.{_≤_};
+ghost use lib.ListN.{length};
 
 // The ledger after an entry, and whether another entry may follow.
 struct Turn {
@@ -28,8 +30,10 @@ fn print_end() {
     io::write_all(STDOUT_FILENO, &[b'\n']);
 }
 
-// The card: its line, and its ledger.
-fn start(value: &mut [u8; 65535]) -> Turn {
+// The card: its line, and its ledger. Any length that two bytes write has room in `value`.
+fn start(value: &mut [u8]) -> Turn
+    requires { ⌜ 65535 ≤ length (now value) ⌝ }
+{
     let mut size_bytes = [0u8; 2];
     if io::read_full(STDIN_FILENO, &mut size_bytes) < 2 {
         print_malformed();
@@ -101,8 +105,10 @@ fn print_bytes(bytes: &[u8]) {
     }
 }
 
-// One entry: its line, and the ledger after it.
-fn turn(l: Ledger, value: &mut [u8; 65535], lent: &mut [u8; 65535]) -> Turn {
+// One entry: its line, and the ledger after it. Any length that two bytes write has room in `value`.
+fn take_turn(l: Ledger, value: &mut [u8], lent: &mut [u8]) -> Turn
+    requires { ⌜ 65535 ≤ length (now value) ⌝ }
+{
     let mut head = [0u8; 3];
     let got = io::read_full(STDIN_FILENO, &mut head);
     if got == 0 {
@@ -138,7 +144,7 @@ fn turn(l: Ledger, value: &mut [u8; 65535], lent: &mut [u8; 65535]) -> Turn {
         };
     }
     print_numbers(line);
-    let n = io::count(written(answer) as isize, lent);
+    let n = lists::walks::held(written(answer), lent.len());
     if 0 < n {
         print_bytes(&lent[..n]);
     }
@@ -160,7 +166,7 @@ fn main() {
             return;
         }
         let l = now.ledger;
-        now = turn(l, &mut value, &mut lent);
+        now = take_turn(l, &mut value, &mut lent);
         turns -= 1;
     }
 }

@@ -11,7 +11,7 @@ ghost use lib.ListN.{length, take};
 ghost use lib.Seq.{sets};
 ghost use Rattle.sets.specs.Numbers.{bytes};
 ghost use Rattle.register.specs.Form.{recordBytes};
-ghost use Rattle.directive.specs.Form.{directiveBytes};
+ghost use Rattle.drafts.specs.Form.{directiveBytes};
 ghost use Rattle.card.specs.Form.{headBytes};
 ghost use Rattle.card.specs.Grammar.{field};
 ghost use Rattle.card.specs.Writing.{recordFields, directiveFields};
@@ -76,7 +76,7 @@ fn put_directive_field(s: &mut [u8], at: usize, d: Directive)
     ensures { λ _. ⌜ now (s .exit) ≡ sets (now (s .entry)) at (field 0x04 (directiveBytes d)) ⌝ }
 {
     put_tag(s, at, 0x04, 25);
-    directive::form::put_directive(s, at + 3, d);
+    drafts::form::put_directive(s, at + 3, d);
 }
 
 // A field for each of the first n directives, in order.

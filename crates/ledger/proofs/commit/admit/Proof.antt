@@ -4,7 +4,7 @@ use native.Mathlib.Omega.{arith}
 use borrow.Author.Needs.{needs}
 use lib.ListN.{length, length-take}
 use Rattle.register.proofs.ArrayLaws.{long-mapped}
-use Rattle.directive.proofs.FormLaws.{Widths}
+use Rattle.drafts.proofs.FormLaws.{Widths}
 use Rattle.meaning.specs.Judgement.{meant}
 use Rattle.meaning.specs.Found.{found}
 use Rattle.ledger.specs.State.{view}

@@ -9,9 +9,9 @@ use Rattle.sets.specs.Quantifiers.{keep}
 use Rattle.register.proofs.ArrayLaws.{long-mapped}
 use Rattle.register.proofs.CallLaws.{failed, passed}
 use Rattle.directive.specs.declared.Directive.{Directive}
-use Rattle.directive.specs.declared.Draft.{Draft}
+use Rattle.drafts.specs.declared.Draft.{Draft}
 use Rattle.directive.specs.declared.lowest.Best.{Best}
-use Rattle.directive.specs.Form.{keepsRanges, directiveOf}
+use Rattle.drafts.specs.Form.{keepsRanges, directiveOf}
 use Rattle.directive.specs.Lowest.{bestOf}
 use Rattle.directive.proofs.LowestLaws.{best-found, best-number}
 use Rattle.meaning.specs.Search.{conflictFound}

@@ -13,7 +13,7 @@ use Rattle.sets.specs.Quantifiers.{allIn}
 use Rattle.sets.specs.Numbers.{isBytes}
 use Rattle.sets.proofs.Lists.{all-places}
 use Rattle.register.proofs.ArrayLaws.{long-mapped}
-use Rattle.directive.specs.Form.{draftOf}
+use Rattle.drafts.specs.Form.{draftOf}
 use Rattle.meaning.specs.Search.{redundantFound}
 use Rattle.meaning.specs.Found.{found}
 use Rattle.ledger.specs.State.{view}

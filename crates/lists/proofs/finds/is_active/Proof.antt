@@ -3,7 +3,7 @@ use Prim.Native.Nat.{_-_}
 use borrow.Author.Needs.{needs}
 use borrow.Author.Tests.{eq-eqb, ne-eqb}
 use Rattle.sets.specs.Quantifiers.{someIn}
-use Rattle.directive.specs.Form.{noDirective}
+use Rattle.directive.specs.Nothing.{noDirective}
 use Rattle.model.specs.Questions.{isActive}
 use Rattle.lists.proofs.WalkLaws.{Sought, sought-none, sought-next, sought-found, sought-all}
 use Rattle.lists.proofs.finds.is_active.Statement.{statement}

@@ -9,7 +9,7 @@ use lib.ListN.{length, take, getD, replicate}
 use lib.Seq.{take-all}
 use Rattle.register.proofs.ArrayLaws.{long-mapped}
 use Rattle.directive.specs.declared.Directive.{Directive}
-use Rattle.directive.specs.Form.{noDirective}
+use Rattle.directive.specs.Nothing.{noDirective}
 use Rattle.directive.specs.Matching.{inMinutes}
 use Rattle.meaning.specs.Search.{start, boundaries}
 use Rattle.redundancy.specs.Masks.{minuteColumn, MasksAt}

@@ -13,7 +13,7 @@ use Rattle.register.specs.Register.{Contents, contents}
 use Rattle.register.proofs.ArrayLaws.{long-mapped}
 use Rattle.directive.specs.declared.Directive.{Directive}
 use Rattle.directive.specs.declared.lowest.Best.{Best}
-use Rattle.directive.specs.Form.{noDirective}
+use Rattle.directive.specs.Nothing.{noDirective}
 use Rattle.directive.specs.Lowest.{bestOf}
 use Rattle.meaning.specs.Meaning.{conflict}
 use Rattle.meaning.specs.Search.{conflictFound, Fit}

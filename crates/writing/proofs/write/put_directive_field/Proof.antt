@@ -1,7 +1,7 @@
 -- `write::put_directive_field`: tag and length, and then the value.
 use borrow.Author.Needs.{needs}
-use Rattle.directive.specs.Form.{directiveBytes}
-use Rattle.directive.proofs.FormLaws.{length-directive}
+use Rattle.drafts.specs.Form.{directiveBytes}
+use Rattle.drafts.proofs.FormLaws.{length-directive}
 use Rattle.writing.proofs.WriteLaws.{put-field}
 use Rattle.writing.proofs.write.put_directive_field.Statement.{statement}
 use Rattle.writing.proofs.write.put_directive_field.Tie as tie

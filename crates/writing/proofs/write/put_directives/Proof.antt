@@ -1,7 +1,7 @@
 -- `write::put_directives`: after i turns the fields of the first i stand one after another.
 use Prim.Native.Nat.{_-_}
 use borrow.Author.Needs.{needs}
-use Rattle.directive.specs.Form.{noDirective}
+use Rattle.directive.specs.Nothing.{noDirective}
 use Rattle.card.specs.Writing.{directiveFields}
 use Rattle.card.proofs.Written.{one-a-directive, directive-field-size}
 use Rattle.writing.proofs.WriteLaws.{Filled, filled-none, filled-next, filled-all}
