@@ -2,10 +2,12 @@
 use crate::Directive;
 use crate::Request;
 use crate::Subject;
-use register::Register;
+use register::records::Node;
 ghost use mathlib.Core.Path.{_≡_};
+ghost use mathlib.Core.List.{List};
 ghost use lib.ListN.{take};
-ghost use Rattle.register.specs.Register.{contents};
+ghost use Rattle.register.specs.declared.Record.{Record as Held};
+ghost use Rattle.register.specs.Nodes.{NodeOf};
 ghost use Rattle.directive.specs.Matching.{subjectCovers, matches};
 
 // Whether the subject covers the person in the role, among the first `count` roles by their parents.
@@ -18,8 +20,9 @@ pub fn subject_covers(s: Subject, parents: &[u8; 16], count: usize, person: u16,
     }
 }
 
-pub fn matches(g: Register, d: Directive, q: Request) -> bool
-    ensures { λ b. ⌜ b ≡ matches (contents g) d q ⌝ }
+// Whether the directive matches the request, n being the record asked for.
+pub fn matches(parents: &[u8; 16], count: usize, n: Node, d: Directive, q: Request) -> bool
+    ensures { λ b. ⌜ ((rs : List Held) → NodeOf rs (q .«record») n → b ≡ matches (record { roles = take count (now (parents .entry)); records = rs }) d q) ⌝ }
 {
     if q.minute < d.from {
         return false;
@@ -34,9 +37,8 @@ pub fn matches(g: Register, d: Directive, q: Request) -> bool
         return false;
     }
     let s = d.subject;
-    let parents = g.roles;
-    if !subject_covers(s, &parents, g.role_count, q.person, q.role) {
+    if !subject_covers(s, parents, count, q.person, q.role) {
         return false;
     }
-    crate::selection::selects(g, d, q.record as usize)
+    crate::selection::selects(n, d)
 }

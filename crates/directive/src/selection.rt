@@ -2,13 +2,17 @@
 use crate::Directive;
 use register::Record;
 use register::Register;
+use register::records::Node;
 use sets::words::Words;
 ghost use mathlib.Core.Path.{_≡_};
 ghost use mathlib.Core.Bool.{_&&_, _||_};
+ghost use mathlib.Core.List.{List};
 ghost use Prim.Native.Nat.{ℕ, _<_};
 ghost use lib.Dec.{eqb, ltb};
 ghost use Rattle.sets.specs.Words.{contains, wordsOf};
+ghost use Rattle.register.specs.declared.Record.{Record as Held};
 ghost use Rattle.register.specs.Register.{contents};
+ghost use Rattle.register.specs.Nodes.{NodeOf};
 ghost use Rattle.directive.specs.Selection.{passesFilters, selects};
 
 fn wide(b: u8) -> u16
@@ -30,23 +34,18 @@ pub fn passes_filters(r: Record, d: Directive) -> bool
     sets::bits::has(wide(d.kinds), r.kind)
 }
 
-// Whether the directive selects record x of the register.
-pub fn selects(g: Register, d: Directive, x: usize) -> bool
-    ensures { λ b. ⌜ b ≡ selects (contents g .records) d x ⌝ }
+// Whether the directive selects the record.
+pub fn selects(n: Node, d: Directive) -> bool
+    ensures { λ b. ⌜ ((rs : List Held) (x : ℕ) → NodeOf rs x n → b ≡ selects rs d x) ⌝ }
 {
-    let n = g.record_count;
-    if n <= x {
+    if !n.there {
         return false;
     }
-    if 128 <= x {
+    let content = n.content;
+    if !passes_filters(content, d) {
         return false;
     }
-    let records = g.records;
-    let r = records[x];
-    if !passes_filters(r, d) {
-        return false;
-    }
-    register::records::reaches(g, d.reach, d.record as usize, x)
+    register::records::reaches(n, d.reach, d.record as usize)
 }
 
 // Whether x, in whose place for the parent p stands, is a descendant of r, where `below` has r's descendants before x.

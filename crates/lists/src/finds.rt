@@ -84,13 +84,17 @@ pub fn request_at(q: Query, minute: u32) -> Request
 pub fn lowest_match(g: Register, active: [Directive; 32], n: usize, q: Request) -> Best
     ensures { λ r. ⌜ r ≡ bestOf (keep (λ d. matches (contents g) d q) (take n active)) ⌝ }
 {
+    let parents = g.roles;
+    let count = g.role_count;
+    let asked = register::records::node_of(g, q.record as usize);
     let mut best = directive::lowest::nothing();
     for i in 0..32usize {
         if n <= i {
             return best;
         }
         let d = active[i];
-        best = directive::lowest::lower_where(best, d, directive::matching::matches(g, d, q));
+        let b = directive::matching::matches(&parents, count, asked, d, q);
+        best = directive::lowest::lower_where(best, d, b);
     }
     best
 }

@@ -2,4 +2,5 @@ pub mod Register
 pub mod Tree
 pub mod Roles
 pub mod Records
+pub mod Nodes
 pub mod Form

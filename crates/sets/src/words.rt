@@ -42,7 +42,10 @@ pub fn with(w: Words, x: usize) -> Words
 pub fn with_where(w: Words, x: usize, b: bool) -> Words
     ensures { λ r. ⌜ ((k : ℕ) → k < 128 → contains r k ≡ b && eqb x k || contains w k) ⌝ }
 {
-    if b { with(w, x) } else { w }
+    if !b {
+        return w;
+    }
+    with(w, x)
 }
 
 pub fn member(w: Words, x: usize) -> bool

@@ -3,24 +3,22 @@ use mathlib.Core.Path.{sym, _∙_}
 use native.Mathlib.Omega.{arith}
 use borrow.Author.Needs.{needs}
 use Rattle.sets.proofs.Quantifiers.{same-test, never-true, both-ways}
-use Rattle.register.specs.Register.{contents}
 use Rattle.register.proofs.CallLaws.{failed, passed}
-use Rattle.directive.specs.Matching.{subjectCovers}
 use Rattle.directive.proofs.MatchLaws.{matches-read, matches-make}
 use Rattle.directive.proofs.matching.matches.Statement.{statement}
 use Rattle.directive.proofs.matching.matches.Tie as tie
 
 returns : tie.Need-returns
-returns c = sym (never-true _ (λ t. omega (arith, matches-read _ _ _ t .begun)))
+returns c rs node = sym (never-true _ (λ t. omega (arith, matches-read _ _ _ t .begun)))
 
 returns-2 : tie.Need-returns-2
-returns-2 c = sym (never-true _ (λ t. omega (arith, matches-read _ _ _ t .not-over)))
+returns-2 c rs node = sym (never-true _ (λ t. omega (arith, matches-read _ _ _ t .not-over)))
 
 has-requires : tie.Need-has-requires
 has-requires c κs = search needs
 
 returns-3 : tie.Need-returns-3
-returns-3 c =
+returns-3 c rs node =
     sym
     (never-true _
     (λ t. both-ways (matches-read _ _ _ t .origin) (failed (c .before .has .ensures) (c .if3 .taken))))
@@ -29,7 +27,7 @@ has-requires-2 : tie.Need-has-requires-2
 has-requires-2 c κs = search needs
 
 returns-4 : tie.Need-returns-4
-returns-4 c =
+returns-4 c rs node =
     sym
     (never-true _
     (λ t. both-ways (matches-read _ _ _ t .purpose) (failed (c .before .has2 .ensures) (c .if4 .taken))))
@@ -38,37 +36,31 @@ subject-covers-requires : tie.Need-subject-covers-requires
 subject-covers-requires c κs = search needs
 
 returns-5 : tie.Need-returns-5
-returns-5 c =
+returns-5 c rs node =
     sym
     (never-true _
     (λ t. both-ways (matches-read _ _ _ t .subject) (failed (c .before .subject-covers .ensures) (c .if5 .taken))))
-
-cast-selects : tie.Need-cast-selects
-cast-selects c = search needs
 
 selects-requires : tie.Need-selects-requires
 selects-requires c κs = search needs
 
 returns-6 : tie.Need-returns-6
-returns-6 c =
-    let subject-tested = c .before .before in
-    let purpose-tested = subject-tested .before .before .before .before in
+returns-6 c rs node =
+    let subject-tested = c .before in
+    let purpose-tested = subject-tested .before .before in
     let origin-tested = purpose-tested .before .before in
-    let begun-tested = origin-tested .before .before in
-    let args = begun-tested .before .before .before .before .before .before .args in
-    let covered = subjectCovers (contents (args .g) .roles) (args .d .subject) (args .q .person) (args .q .role) in
     same-test _ _
     (λ e.
     matches-make _ _ _
     (record {
-      subject = passed {b = covered} (subject-tested .before .subject-covers .ensures) (subject-tested .if5 .left);
+      subject = passed (subject-tested .before .subject-covers .ensures) (subject-tested .if5 .left);
       origin = passed (origin-tested .before .has .ensures) (origin-tested .if3 .left);
       purpose = passed (purpose-tested .before .has2 .ensures) (purpose-tested .if4 .left);
-      selected = sym (c .selects .ensures) ∙ e;
+      selected = sym (c .selects .ensures rs _ node) ∙ e;
       begun = omega arith;
       not-over = omega arith;
     }))
-    (λ t. c .selects .ensures ∙ matches-read _ _ _ t .selected)
+    (λ t. c .selects .ensures rs _ node ∙ matches-read _ _ _ t .selected)
 
 pub matches-spec : {M : Type 1} → statement M
 matches-spec =
@@ -82,6 +74,5 @@ matches-spec =
     returns-4
     subject-covers-requires
     returns-5
-    cast-selects
     selects-requires
     returns-6)

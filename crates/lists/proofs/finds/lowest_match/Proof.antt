@@ -1,4 +1,4 @@
--- `decision::lowest_match`: after i turns the best is that of the first i directives that match.
+-- `finds::lowest_match`: after i turns the best is that of the first i directives that match.
 use Prim.Native.Nat.{ℕ, _+_, _-_, _<_, _≤_}
 use mathlib.Core.Path.{_≡_, _∙_}
 use mathlib.Core.Bool.{Bool}
@@ -9,7 +9,8 @@ use lib.ListN.{length, take, getD}
 use lib.Seq.{take-all}
 use Rattle.sets.specs.Quantifiers.{pick, keep}
 use Rattle.sets.proofs.Keep.{keep-next}
-use Rattle.register.specs.Register.{contents}
+use Rattle.register.specs.declared.Record.{Record}
+use Rattle.register.specs.Nodes.{NodeOf}
 use Rattle.register.proofs.ArrayLaws.{long-mapped}
 use Rattle.directive.specs.declared.Directive.{Directive}
 use Rattle.directive.specs.declared.lowest.Best.{Best}
@@ -50,23 +51,31 @@ module _ {p : Directive → Bool} {active : List Directive} {n : ℕ} {best : Be
       ∙ rw (take-all i active (omega arith), take-all n active (omega (arith, met)))
 
 abbrev Inv-loop : tie.InvT-loop
-Inv-loop g n q active best₀ i₀ best i = Met (λ d. matches (contents g) d q) active n best i
+Inv-loop n q active parents count asked best₀ i₀ best i =
+    (rs : List Record) → NodeOf rs (q .«record») asked →
+    Met (λ d. matches (record { roles = take count parents; records = rs }) d q) active n best i
 
 abbrev μ-loop : tie.MeasureT-loop
-μ-loop g n q active best₀ i₀ best i = 32 - i
+μ-loop n q active parents count asked best₀ i₀ best i = 32 - i
+
+cast-node-of : tie.Need-cast-node-of Inv-loop μ-loop
+cast-node-of c = search needs
+
+node-of-requires : tie.Need-node-of-requires Inv-loop μ-loop
+node-of-requires c κs = search needs
 
 nothing-requires : tie.Need-nothing-requires Inv-loop μ-loop
 nothing-requires c κs = search needs
 
 loop-holds : tie.Need-loop-holds Inv-loop μ-loop
 unfolding keep
-loop-holds c = record { in-places = search needs; in-count = search needs; lowest = c .nothing .ensures }
+loop-holds c rs node = record { in-places = search needs; in-count = search needs; lowest = c .nothing .ensures }
 
 returns : tie.Need-returns Inv-loop μ-loop
 returns c =
-    let now = c .before .before .before in
-    let l : length (now .before .args .t2) ≡ 32 = search (needs, long-mapped) in
-    met-counted l (c .before .before .loop .inv) (c .if1 .taken)
+    let asked = c .before .before .before .before in
+    let l : length (asked .before .before .before .args .t2) ≡ 32 = search (needs, long-mapped) in
+    met-counted l (c .before .before .loop .inv _ (asked .node-of .ensures)) (c .if1 .taken)
 
 mul-d : tie.Need-mul-d Inv-loop μ-loop
 mul-d c = search needs
@@ -87,15 +96,16 @@ loop-less : tie.Need-loop-less Inv-loop μ-loop
 loop-less c = search needs
 
 loop-again : tie.Need-loop-again Inv-loop μ-loop
-loop-again c =
-    let now = c .before .before .before .before in
-    let l : length (now .before .before .before .args .t2) ≡ 32 = search (needs, long-mapped) in
-    met-next l (now .before .loop .inv) (search needs) (search needs) (c .before .matches .ensures) (c .lower-where .ensures)
+loop-again c rs node =
+    let now = c .before .before .before .before .before .before in
+    let l : length (now .before .before .before .before .before .args .t2) ≡ 32 = search (needs, long-mapped) in
+    met-next l (now .loop .inv rs node) (search needs) (search needs) (c .before .matches .ensures rs node) (c .lower-where .ensures)
 
 returns-2 : tie.Need-returns-2 Inv-loop μ-loop
 returns-2 c =
-    let l : length (c .before .before .before .args .t2) ≡ 32 = search (needs, long-mapped) in
-    met-full l (c .before .loop .inv) (c .loop-test .left)
+    let asked = c .before .before .before in
+    let l : length (asked .before .before .before .args .t2) ≡ 32 = search (needs, long-mapped) in
+    met-full l (c .before .loop .inv _ (asked .node-of .ensures)) (c .loop-test .left)
 
 pub lowest-match-spec : {M : Type 1} → statement M
 lowest-match-spec =
@@ -103,6 +113,8 @@ lowest-match-spec =
     (tie.spec
     Inv-loop
     μ-loop
+    cast-node-of
+    node-of-requires
     nothing-requires
     loop-holds
     returns

@@ -1,16 +1,17 @@
--- `words::with_where` adds the number where the test holds, and otherwise gives the set back.
+-- `words::with_where` gives the set back where the test fails, and otherwise adds the number.
 use borrow.Author.Needs.{needs}
+use borrow.Author.Tests.{not-true, not-false}
 use Rattle.sets.proofs.words.with_where.Statement.{statement}
 use Rattle.sets.proofs.words.with_where.Tie as tie
+
+returns : tie.Need-returns
+returns c k h = rw (not-true (c .before .args .b) (c .if1 .taken))
 
 with-requires : tie.Need-with-requires
 with-requires c κs = search needs
 
-returns : tie.Need-returns
-returns c k h = rw (c .before .if1 .taken) (c .with .ensures k h)
-
 returns-2 : tie.Need-returns-2
-returns-2 c k h = rw (c .if1 .left)
+returns-2 c k h = rw (not-false (c .before .before .args .b) (c .before .if1 .left)) (c .with .ensures k h)
 
 pub with-where-spec : {M : Type 1} → statement M
-with-where-spec = tie.close (tie.spec with-requires returns returns-2)
+with-where-spec = tie.close (tie.spec returns with-requires returns-2)
