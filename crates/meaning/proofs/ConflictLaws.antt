@@ -33,7 +33,7 @@ pub record Common (c : Contents) (clock : ℕ) (d e : Directive) : Type 0 where
 -- what the search finds, one dimension at a time
 pub record Found (c : Contents) (clock : ℕ) (d e : Directive) : Type 0 where
   pub opposite : sameEffect d e ≡ false
-  pub subject : subjectsMeet c (d .subject) (e .subject) ≡ true
+  pub subject : subjectsMeet (c .roles) (d .subject) (e .subject) ≡ true
   pub origin : someOf origins (fromOrigin d) (fromOrigin e) ≡ true
   pub selected : someOf (length (c .records)) (selects (c .records) d) (selects (c .records) e) ≡ true
   pub purpose : someOf purposes (forPurpose d) (forPurpose e) ≡ true
@@ -120,7 +120,7 @@ module _ (c : Contents) (clock : ℕ) where
 
   module _ (a-role : 0 < length (c .roles)) where
     meeting :
-        (s t : Subject) → SubjectIn c s → SubjectIn c t → subjectsMeet c s t ≡ true →
+        (s t : Subject) → SubjectIn c s → SubjectIn c t → subjectsMeet (c .roles) s t ≡ true →
         (p : ℕ) × (r : ℕ) × (p < persons) × (r < length (c .roles))
         × (subjectCovers (c .roles) s p r ≡ true) × (subjectCovers (c .roles) t p r ≡ true)
     meeting (Person n) (Person k) h i e = (k, 0, i, a-role, e, eq-eqb k k refl)
@@ -166,7 +166,7 @@ module _ (c : Contents) (clock : ℕ) where
 
   subjects-meet :
       (s t : Subject) (p r : ℕ) → r < length (c .roles) →
-      subjectCovers (c .roles) s p r ≡ true → subjectCovers (c .roles) t p r ≡ true → subjectsMeet c s t ≡ true
+      subjectCovers (c .roles) s p r ≡ true → subjectCovers (c .roles) t p r ≡ true → subjectsMeet (c .roles) s t ≡ true
   subjects-meet (Person n) (Person k) p r h a b =
       let i = eqb-true n p a in let j = eqb-true k p b in eq-eqb n k (omega arith)
   subjects-meet (Person n) (Role k) p r h a b = refl

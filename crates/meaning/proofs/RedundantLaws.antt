@@ -72,13 +72,13 @@ module _ (c : Contents) (clock : ℕ) (d : Directive) (es : List Directive) wher
 module _ (c : Contents) where
   -- the person who stands for s in role r: named by s, or one whose number no subject of the list has
   standing :
-      (s : Subject) (es : List Directive) (r : ℕ) → SubjectIn c s → length es < persons → standsFor c s s r ≡ true →
+      (s : Subject) (es : List Directive) (r : ℕ) → SubjectIn c s → length es < persons → standsFor (c .roles) s s r ≡ true →
       (p : ℕ) × (p < persons) × (subjectCovers (c .roles) s p r ≡ true)
       × ((e : Directive) → List·Memᴰ e es →
-      subjectCovers (c .roles) (e .subject) p r ≡ true → standsFor c s (e .subject) r ≡ true)
+      subjectCovers (c .roles) (e .subject) p r ≡ true → standsFor (c .roles) s (e .subject) r ≡ true)
   standing (Person n) es r h few a = (n, h, a, λ e i. alike (e .subject))
     where
-      alike : (t : Subject) → subjectCovers (c .roles) t n r ≡ true → standsFor c (Person n) t r ≡ true
+      alike : (t : Subject) → subjectCovers (c .roles) t n r ≡ true → standsFor (c .roles) (Person n) t r ≡ true
       alike (Person k) b = b
       alike (Role k) b = b
   standing (Role n) es r h few a =
@@ -87,7 +87,7 @@ module _ (c : Contents) where
     where
       unnamed :
           (p : ℕ) (t : Subject) → (numberOf t ≡ p → ⊥) →
-          subjectCovers (c .roles) t p r ≡ true → standsFor c (Role n) t r ≡ true
+          subjectCovers (c .roles) t p r ≡ true → standsFor (c .roles) (Role n) t r ≡ true
       unnamed p (Person k) f b = absurd (f (eqb-true k p b))
       unnamed p (Role k) f b = b
 
@@ -99,7 +99,7 @@ module _ (c : Contents) where
         every-of (length (c .records)) (selects (c .records) d) .make _ λ x hx.
         every-of origins (fromOrigin d) .make _ λ o ho.
         every-of purposes (forPurpose d) .make _ λ u hu.
-        every-of (length (c .roles)) (standsFor c (d .subject) (d .subject)) .make _ λ r hr.
+        every-of (length (c .roles)) (standsFor (c .roles) (d .subject) (d .subject)) .make _ λ r hr.
         every-where (inMinutes (start clock d) (d .until)) (every-list (boundaries clock d es)) .make _ λ m hm.
         let (begun, not-over) = in-minutes-read (start clock d) (d .until) m (hm .1) in
         let (p, hp, s, stands) = standing (d .subject) es r (fit .subject-in) few (hr .1) in
@@ -125,7 +125,7 @@ module _ (c : Contents) where
 
   -- what the person who stands for s is to t, each person whom s covers is to t
   stands-at :
-      (s t : Subject) (p r : ℕ) → subjectCovers (c .roles) s p r ≡ true → standsFor c s t r ≡ true →
+      (s t : Subject) (p r : ℕ) → subjectCovers (c .roles) s p r ≡ true → standsFor (c .roles) s t r ≡ true →
       subjectCovers (c .roles) t p r ≡ true
   stands-at (Person n) (Person k) p r a b =
       let i = eqb-true n p a in let j = eqb-true k n b in eq-eqb k p (omega arith)
@@ -133,14 +133,14 @@ module _ (c : Contents) where
   stands-at (Role n) (Person k) p r a b = both-ways b refl
   stands-at (Role n) (Role k) p r a b = b
 
-  stands-self : (s : Subject) (p r : ℕ) → subjectCovers (c .roles) s p r ≡ true → standsFor c s s r ≡ true
+  stands-self : (s : Subject) (p r : ℕ) → subjectCovers (c .roles) s p r ≡ true → standsFor (c .roles) s s r ≡ true
   stands-self (Person n) p r a = eq-eqb n n refl
   stands-self (Role n) p r a = a
 
   module _ (d : Directive) (x o u r : ℕ) where
     meets-read :
         (e : Directive) (m : ℕ) → meets c d x o u r e m ≡ true →
-        (sameEffect d e ≡ true) × (standsFor c (d .subject) (e .subject) r ≡ true) × (admits c e x o u m ≡ true)
+        (sameEffect d e ≡ true) × (standsFor (c .roles) (d .subject) (e .subject) r ≡ true) × (admits c e x o u m ≡ true)
     meets-read e m t =
         let (two, a) = and-both _ (admits c e x o u m) t in
         let (same, stands) = and-both (sameEffect d e) _ two in (same, stands, a)
@@ -168,7 +168,7 @@ module _ (c : Contents) where
         (x < length (c .records)) × (selects (c .records) d x ≡ true) →
         (o < origins) × (fromOrigin d o ≡ true) →
         (u < purposes) × (forPurpose d u ≡ true) →
-        (r < length (c .roles)) × (standsFor c (d .subject) (d .subject) r ≡ true) →
+        (r < length (c .roles)) × (standsFor (c .roles) (d .subject) (d .subject) r ≡ true) →
         start clock d ≤ m → m < d .until → coveredAt c d es x o u r m ≡ true
     unfolding redundantFound
     point-covered x o u r m hx ho hu hr =

@@ -28,16 +28,16 @@ abbrev pub start : ℕ → Directive → ℕ
 start clock d = max (d .from) clock
 
 -- some person in some role is covered by both subjects
-abbrev pub subjectsMeet : Contents → Subject → Subject → Bool
-subjectsMeet c (Person n) (Person k) = eqb n k
-subjectsMeet c (Person n) (Role k) = true
-subjectsMeet c (Role n) (Person k) = true
-subjectsMeet c (Role n) (Role k) = someOf (length (c .roles)) (covers (c .roles) n) (covers (c .roles) k)
+abbrev pub subjectsMeet : List ℕ → Subject → Subject → Bool
+subjectsMeet roles (Person n) (Person k) = eqb n k
+subjectsMeet roles (Person n) (Role k) = true
+subjectsMeet roles (Role n) (Person k) = true
+subjectsMeet roles (Role n) (Role k) = someOf (length roles) (covers roles n) (covers roles k)
 
 -- the two overlap in each dimension
 unfoldable pub overlap : Contents → ℕ → Directive → Directive → Bool
 overlap c clock d e =
-    subjectsMeet c (d .subject) (e .subject)
+    subjectsMeet (c .roles) (d .subject) (e .subject)
     && someOf origins (fromOrigin d) (fromOrigin e)
     && someOf (length (c .records)) (selects (c .records) d) (selects (c .records) e)
     && someOf purposes (forPurpose d) (forPurpose e)
@@ -59,12 +59,12 @@ unfoldable pub breaksBaselineFound : Contents → ℕ → ℕ → Directive → 
 breaksBaselineFound c patient clock d = not (d .permit) && breaksForFound c patient clock d (d .subject)
 
 -- One person stands for all that a draft's subject s covers: the person whom s names, or one whom no active directive
--- names. `standsFor c s t r`: t covers that person in role r.
-abbrev pub standsFor : Contents → Subject → Subject → ℕ → Bool
-standsFor c (Person n) (Person k) r = eqb k n
-standsFor c (Person n) (Role k) r = covers (c .roles) k r
-standsFor c (Role n) (Person k) r = false
-standsFor c (Role n) (Role k) r = covers (c .roles) k r
+-- names. `standsFor roles s t r`: t covers that person in role r.
+abbrev pub standsFor : List ℕ → Subject → Subject → ℕ → Bool
+standsFor roles (Person n) (Person k) r = eqb k n
+standsFor roles (Person n) (Role k) r = covers roles k r
+standsFor roles (Role n) (Person k) r = false
+standsFor roles (Role n) (Role k) r = covers roles k r
 
 -- all but the subject: record x, origin o, purpose u, minute m
 unfoldable pub admits : Contents → Directive → ℕ → ℕ → ℕ → ℕ → Bool
@@ -73,7 +73,7 @@ admits c d x o u m =
 
 -- e is of d's effect, and matches that person's request
 abbrev pub meets : Contents → Directive → ℕ → ℕ → ℕ → ℕ → Directive → ℕ → Bool
-meets c d x o u r e m = sameEffect d e && standsFor c (d .subject) (e .subject) r && admits c e x o u m
+meets c d x o u r e m = sameEffect d e && standsFor (c .roles) (d .subject) (e .subject) r && admits c e x o u m
 
 -- one of the list does so
 abbrev pub coveredAt : Contents → Directive → List Directive → ℕ → ℕ → ℕ → ℕ → ℕ → Bool
@@ -88,7 +88,7 @@ redundantFound c clock d es =
     allOf (length (c .records)) (selects (c .records) d) λ x.
     allOf origins (fromOrigin d) λ o.
     allOf purposes (forPurpose d) λ u.
-    allOf (length (c .roles)) (standsFor c (d .subject) (d .subject)) λ r.
+    allOf (length (c .roles)) (standsFor (c .roles) (d .subject) (d .subject)) λ r.
     allIn (λ m. implies (inMinutes (start clock d) (d .until) m) (coveredAt c d es x o u r m)) (boundaries clock d es)
 
 -- what the search asks of a directive: a person or role that there is, and an end that is a minute, or one past the last

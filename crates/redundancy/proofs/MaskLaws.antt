@@ -56,9 +56,9 @@ module _ (p : ℕ → Bool) where
   set-none n none = set-cut 0 n (omega arith) (λ k _ _. none k)
 
 -- in role r a role stands for what it covers, whoever the draft's subject is
-pub stands-role : (c : Contents) (s : Subject) (n r : ℕ) → standsFor c s (Role n) r ≡ covers (c .roles) n r
-stands-role c (Person k) n r = refl
-stands-role c (Role k) n r = refl
+pub stands-role : (roles : List ℕ) (s : Subject) (n r : ℕ) → standsFor roles s (Role n) r ≡ covers roles n r
+stands-role roles (Person k) n r = refl
+stands-role roles (Role k) n r = refl
 
 module _ (size : ℕ) (f : ℕ → ℕ) where
   pub filled-none : Filled size f 0 (replicate size 0)

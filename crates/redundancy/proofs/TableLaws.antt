@@ -31,7 +31,7 @@ use Rattle.redundancy.specs.declared.tables.Minutes.{Minutes}
 use Rattle.meaning.specs.Requests.{origins, purposes}
 use Rattle.meaning.specs.Meaning.{sameEffect}
 use Rattle.meaning.specs.Search.{fromOrigin, forPurpose, start, standsFor, admits, coveredAt, boundaries, redundantFound}
-use Rattle.redundancy.specs.Masks.{roleRow, column, recordColumn, minuteColumn, minutesCovered, levelCovered, allCovered, Row, RowsOf, MinutesOf}
+use Rattle.redundancy.specs.Masks.{roleRow, recordRow, column, recordColumn, minuteColumn, minutesCovered, levelCovered, allCovered, Row, RowsOf, MinutesOf}
 
 -- the values below n that pass f, where those are the values below m that pass g
 of-same :
@@ -128,32 +128,36 @@ module _ (es : List Directive) (n : ℕ) where
 
 module _ (c : Contents) (d : Directive) (es : List Directive) (n : ℕ) (rows : Rows) (is-rows : RowsOf c d es n rows) where
   has-record :
-      (x : ℕ) → x < 128 → Has es n (recordColumn (rows .low) (rows .high) x) (λ e. selects (c .records) e x)
+      (x : ℕ) → x < 128 →
+      Has es n (recordColumn (rows .low) (rows .high) x) (λ e. sameEffect d e && selects (c .records) e x)
   has-record x h =
       elim (decLt x 64) [
         | yes l ↦
             rw (lt-ltb x 64 l)
-            (has-alike es n _ _ _ (λ e. sym (contains-low (wordsOf (selects (c .records) e)) x l) ∙ contains-words (selects (c .records) e) x h)
+            (has-alike es n _ _ _ (λ e. sym (contains-low (recordRow (c .records) d e) x l) ∙ here e)
             (has-column es n _ (rows .low) x (is-rows .low)))
         | no g ↦
             rw (le-ltb x 64 (omega arith))
-            (has-alike es n _ _ _ (λ e. sym (contains-high (wordsOf (selects (c .records) e)) x (omega arith) h) ∙ contains-words (selects (c .records) e) x h)
+            (has-alike es n _ _ _ (λ e. sym (contains-high (recordRow (c .records) d e) x (omega arith) h) ∙ here e)
             (has-column es n _ (rows .high) _ (is-rows .high)))
       ]
+    where
+      here : (e : Directive) → contains (recordRow (c .records) d e) x ≡ sameEffect d e && selects (c .records) e x
+      here e = contains-words (λ x. sameEffect d e && selects (c .records) e x) x h
 
   has-role :
       (r : ℕ) → r < length (c .roles) → r < 16 →
-      Has es n (column (rows .roles) r) (λ e. sameEffect d e && standsFor c (d .subject) (e .subject) r)
+      Has es n (column (rows .roles) r) (λ e. standsFor (c .roles) (d .subject) (e .subject) r)
   has-role r h l =
       has-alike es n _ _ _
-      (λ e. set-bit 16 r _ ∙ rw (lt-ltb r 16 l, lt-ltb r (length (c .roles)) h, and-true (sameEffect d e)))
-      (has-column es n (roleRow c d) (rows .roles) r (is-rows .roles))
+      (λ e. set-bit 16 r _ ∙ rw (lt-ltb r 16 l, lt-ltb r (length (c .roles)) h))
+      (has-column es n (roleRow (c .roles) d) (rows .roles) r (is-rows .roles))
 
 -- the tests of one directive, in the order of the levels and of the definition
-in-order : (x o u e s m : Bool) → x && o && u && (e && s) && m ≡ e && s && (o && u && x && m)
-in-order x o u false s m = rw (and-false (x && o && u))
-in-order x o u true false m = rw (and-false (x && o && u))
-in-order x o u true true m = ap (λ (b : Bool). b && m) (and-true (x && o && u) ∙ and-assoc x o u ∙ and-comm x (o && u))
+in-order : (e x o u s m : Bool) → e && x && o && u && s && m ≡ e && s && (o && u && x && m)
+in-order false x o u s m = refl
+in-order true x o u false m = rw (and-false (x && o && u))
+in-order true x o u true m = ap (λ (b : Bool). b && m) (and-true (x && o && u) ∙ and-assoc x o u ∙ and-comm x (o && u))
 
 -- the table has the columns of the rows
 abbrev Columns : List ℕ → List ℕ → Type 0
@@ -189,12 +193,12 @@ module _ (c : Contents) (clock : ℕ) (d : Directive) (es : List Directive) (n :
       (has-minute es n m)
       ∙ some-alike _ _ (take n es)
       (λ e _.
-      in-order (selects (c .records) e x) (fromOrigin e o) (forPurpose e u) (sameEffect d e)
-      (standsFor c (d .subject) (e .subject) r) (inMinutes (e .from) (e .until) m)))
+      in-order (sameEffect d e) (selects (c .records) e x) (fromOrigin e o) (forPurpose e u)
+      (standsFor (c .roles) (d .subject) (e .subject) r) (inMinutes (e .from) (e .until) m)))
 
   pub tables-found :
       (chosen : Words) (roles : ℕ) (t : Minutes) {r : Bool} → chosen ≡ wordsOf (selects (c .records) d) →
-      roles ≡ setOf 16 (λ r. ltb r (length (c .roles)) && standsFor c (d .subject) (d .subject) r) →
+      roles ≡ setOf 16 (λ r. ltb r (length (c .roles)) && standsFor (c .roles) (d .subject) (d .subject) r) →
       MinutesOf clock d es n t →
       r ≡ allCovered chosen (d .«subject_origins») (d .purposes) roles (rows .low) (rows .high) byOrigin byPurpose byRole (t .masks) (t .count) →
       r ≡ redundantFound c clock d (take n es)
@@ -208,7 +212,7 @@ module _ (c : Contents) (clock : ℕ) (d : Directive) (es : List Directive) (n :
       (λ o ho _.
       of-same 11 11 (forPurpose d) (forPurpose d) _ _ (omega arith) (λ u h. rw (lt-ltb u 11 h))
       (λ u hu _.
-      of-same 16 (length (c .roles)) (λ r. bit r roles) (standsFor c (d .subject) (d .subject)) _ _ few-roles
+      of-same 16 (length (c .roles)) (λ r. bit r roles) (standsFor (c .roles) (d .subject) (d .subject)) _ _ few-roles
       (λ r h. ap (bit r) is-roles ∙ set-bit 16 r _ ∙ rw (lt-ltb r 16 h))
       (λ r hr _.
       is-minutes .masks (λ m. not (eqb (bitAnd (narrowed rows byOrigin byPurpose byRole x o u r) m) 0))

@@ -11,6 +11,7 @@ use Rattle.sets.specs.Quantifiers.{pick, implies, allBelow, allOf, allIn}
 use Rattle.sets.specs.Bits.{bit, setOf}
 use Rattle.sets.specs.Words.{contains, wordsOf}
 use Rattle.sets.specs.declared.words.Words.{Words}
+use Rattle.register.specs.declared.Record.{Record}
 use Rattle.register.specs.Register.{Contents}
 use Rattle.directive.specs.declared.Directive.{Directive}
 use Rattle.directive.specs.Nothing.{noDirective}
@@ -21,9 +22,13 @@ use Rattle.redundancy.specs.declared.tables.Minutes.{Minutes}
 use Rattle.meaning.specs.Meaning.{sameEffect}
 use Rattle.meaning.specs.Search.{start, standsFor, boundaries}
 
--- the roles in which e, if it is of d's effect, covers the person who stands for d's subject
-abbrev pub roleRow : Contents → Directive → Directive → ℕ
-roleRow c d e = setOf 16 (λ r. sameEffect d e && ltb r (length (c .roles)) && standsFor c (d .subject) (e .subject) r)
+-- the roles in which e covers the person who stands for d's subject
+abbrev pub roleRow : List ℕ → Directive → Directive → ℕ
+roleRow roles d e = setOf 16 (λ r. ltb r (length roles) && standsFor roles (d .subject) (e .subject) r)
+
+-- the records that e selects, if it is of d's effect
+abbrev pub recordRow : List Record → Directive → Directive → Words
+recordRow rs d e = wordsOf (λ x. sameEffect d e && selects rs e x)
 
 -- the directives whose row has k
 abbrev pub column : List ℕ → ℕ → ℕ
@@ -79,11 +84,11 @@ Row es n f row = Filled 32 (λ i. f (getD es i noDirective)) n row
 
 -- The rows of the first n of the directives es, for the draft d.
 pub record RowsOf (c : Contents) (d : Directive) (es : List Directive) (n : ℕ) (r : Rows) : Type 0 where
-  pub roles : Row es n (roleRow c d) (r .roles)
+  pub roles : Row es n (roleRow (c .roles) d) (r .roles)
   pub origins : Row es n (λ e. e .«subject_origins») (r .origins)
   pub purposes : Row es n (λ e. e .purposes) (r .purposes)
-  pub low : Row es n (λ e. wordsOf (selects (c .records) e) .low) (r .low)
-  pub high : Row es n (λ e. wordsOf (selects (c .records) e) .high) (r .high)
+  pub low : Row es n (λ e. recordRow (c .records) d e .low) (r .low)
+  pub high : Row es n (λ e. recordRow (c .records) d e .high) (r .high)
 
 -- What holds of each of the first `count` masks holds of the masks at those of the minutes that pass `spans`.
 abbrev pub MasksAt : (ℕ → Bool) → (ℕ → ℕ) → List ℕ → List ℕ → ℕ → Type 0

@@ -121,12 +121,13 @@ pub fn is_redundant(
     let by_role = columns(&roles);
     let minutes = minutes_of(clock, d, active, n);
     let by_minute = minutes.masks;
+    let parents = g.roles;
     let s = d.subject;
     all_covered(
         chosen,
         d.subject_origins,
         d.purposes,
-        standing_roles(g, s, s),
+        standing_roles(&parents, g.role_count, s, s),
         &low,
         &high,
         &by_origin,

@@ -2,16 +2,17 @@
 use directive::Directive;
 use directive::Subject;
 use register::Register;
+use sets::words::Words;
 ghost use mathlib.Core.Path.{_≡_};
 ghost use mathlib.Core.Bool.{_&&_};
-ghost use Prim.Native.Nat.{ℕ, _+_, _*_, _^_, _<_, _≤_, min};
-ghost use lib.ListN.{length, getD};
+ghost use Prim.Native.Nat.{ℕ, _+_, _*_, _^_, _<_, _≤_};
+ghost use lib.ListN.{length, take, getD};
 ghost use lib.Dec.{ltb};
 ghost use Rattle.sets.specs.Quantifiers.{oneIf};
 ghost use Rattle.sets.specs.Bits.{setOf};
 ghost use Rattle.register.specs.Register.{contents};
 ghost use Rattle.meaning.specs.Search.{standsFor};
-ghost use Rattle.redundancy.specs.Masks.{roleRow, column, recordColumn, minuteColumn, RowsOf, MinutesOf};
+ghost use Rattle.redundancy.specs.Masks.{roleRow, recordRow, column, recordColumn, minuteColumn, RowsOf, MinutesOf};
 
 // The rows of the active directives, one number each.
 pub struct Rows {
@@ -29,27 +30,32 @@ fn wide(x: u16) -> u64
 }
 
 // The roles in which the subject t covers the person who stands for s.
-pub fn standing_roles(g: Register, s: Subject, t: Subject) -> u16
-    ensures { λ r. ⌜ r ≡ setOf 16 (λ k. ltb k (length (contents g .roles)) && standsFor (contents g) s t k) ⌝ }
+pub fn standing_roles(parents: &[u8; 16], count: usize, s: Subject, t: Subject) -> u16
+    ensures { λ r. ⌜ r ≡ setOf 16 (λ k. ltb k (length (take count (now (parents .entry)))) && standsFor (take count (now (parents .entry))) s t k) ⌝ }
 {
-    let parents = g.roles;
-    let count = g.role_count;
     match t {
         Subject::Person(k) => match s {
-            Subject::Person(n) => if k == n { every_role(count) } else { 0 },
+            Subject::Person(n) => if k == n {
+                every_role(parents, count)
+            } else {
+                0
+            },
             Subject::Role(_) => 0,
         },
-        Subject::Role(k) => register::roles::covered_set(&parents, count, k),
+        Subject::Role(k) => register::roles::covered_set(parents, count, k),
     }
 }
 
 // The roles that there are, as a set.
-fn every_role(count: usize) -> u16
-    ensures { λ r. ⌜ r ≡ setOf 16 (λ k. ltb k (min count 16)) ⌝ }
+fn every_role(parents: &[u8], count: usize) -> u16
+    ensures { λ r. ⌜ r ≡ setOf 16 (λ k. ltb k (length (take count (now (parents .entry))))) ⌝ }
 {
     let mut set: u16 = 0;
     for q in 0..16u16 {
         if count <= q as usize {
+            return set;
+        }
+        if parents.len() <= q as usize {
             return set;
         }
         set = set + (1 << q);
@@ -57,20 +63,30 @@ fn every_role(count: usize) -> u16
     set
 }
 
-fn role_row(g: Register, d: Directive, e: Directive) -> u64
-    ensures { λ r. ⌜ r ≡ roleRow (contents g) d e ⌝ }
+// The roles in which e covers the person who stands for d's subject.
+fn role_row(parents: &[u8; 16], count: usize, d: Directive, e: Directive) -> u64
+    ensures { λ r. ⌜ r ≡ roleRow (take count (now (parents .entry))) d e ⌝ }
 {
-    if d.permit != e.permit {
-        return 0;
-    }
     let s = d.subject;
     let t = e.subject;
-    wide(standing_roles(g, s, t))
+    wide(standing_roles(parents, count, s, t))
+}
+
+// The records that e selects, if it is of d's effect.
+fn record_row(g: Register, d: Directive, e: Directive) -> Words
+    ensures { λ w. ⌜ w ≡ recordRow (contents g .records) d e ⌝ }
+{
+    if d.permit != e.permit {
+        return sets::words::none();
+    }
+    directive::selection::selected(g, e)
 }
 
 pub fn rows_of(g: Register, d: Directive, active: [Directive; 32], n: usize) -> Rows
     ensures { λ r. ⌜ RowsOf (contents g) d active n r ⌝ }
 {
+    let parents = g.roles;
+    let count = g.role_count;
     let none = [0u64; 32];
     let mut rows = Rows {
         roles: none,
@@ -84,8 +100,8 @@ pub fn rows_of(g: Register, d: Directive, active: [Directive; 32], n: usize) -> 
             return rows;
         }
         let e = active[i];
-        let w = directive::selection::selected(g, e);
-        rows.roles[i] = role_row(g, d, e);
+        let w = record_row(g, d, e);
+        rows.roles[i] = role_row(&parents, count, d, e);
         rows.origins[i] = wide(e.subject_origins);
         rows.purposes[i] = wide(e.purposes);
         rows.low[i] = w.low;

@@ -1,4 +1,5 @@
 pub mod TreeLaws
+pub mod CoverLaws
 pub mod ReachLaws
 pub mod ArrayLaws
 pub mod RecordLaws

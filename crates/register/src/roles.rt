@@ -4,6 +4,7 @@ ghost use mathlib.Core.Bool.{_&&_};
 ghost use Prim.Native.Nat.{ℕ, _<_};
 ghost use lib.ListN.{length, take};
 ghost use lib.Dec.{ltb};
+ghost use Rattle.sets.specs.Quantifiers.{someOf};
 ghost use Rattle.sets.specs.Bits.{setOf};
 ghost use Rattle.register.specs.Roles.{covers};
 
@@ -40,6 +41,22 @@ pub fn covers(parents: &[u8; 16], count: usize, r: u16, q: u16) -> bool
     } else {
         false
     }
+}
+
+// Whether some role is covered by both: one covers the other.
+pub fn meet(parents: &[u8; 16], count: usize, n: u16, k: u16) -> bool
+    ensures { λ b. ⌜ b ≡ someOf (length (take count (now (parents .entry)))) (covers (take count (now (parents .entry))) n) (covers (take count (now (parents .entry))) k) ⌝ }
+{
+    let roles = size(parents, count);
+    if (k as usize) < roles {
+        if covers(parents, count, n, k) {
+            return true;
+        }
+    }
+    if (n as usize) < roles {
+        return covers(parents, count, k, n);
+    }
+    false
 }
 
 // The roles that role r covers, as a set.

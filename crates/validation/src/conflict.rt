@@ -7,10 +7,9 @@ use sets::words::Words;
 ghost use mathlib.Core.Path.{_≡_};
 ghost use Prim.Native.Nat.{_<_};
 ghost use lib.ListN.{length, take};
-ghost use Rattle.sets.specs.Quantifiers.{someOf, keep};
+ghost use Rattle.sets.specs.Quantifiers.{keep};
 ghost use Rattle.sets.specs.Words.{wordsOf};
 ghost use Rattle.register.specs.Register.{contents};
-ghost use Rattle.register.specs.Roles.{covers};
 ghost use Rattle.directive.specs.Selection.{selects};
 ghost use Rattle.directive.specs.Lowest.{bestOf};
 ghost use Rattle.meaning.specs.Meaning.{conflict};
@@ -18,8 +17,8 @@ ghost use Rattle.meaning.specs.Search.{subjectsMeet, conflictFound, Fit};
 ghost use Rattle.meaning.specs.Active.{AllFit};
 
 // Whether some person in some role is covered by both subjects.
-pub fn subjects_meet(g: Register, s: Subject, t: Subject) -> bool
-    ensures { λ b. ⌜ b ≡ subjectsMeet (contents g) s t ⌝ }
+pub fn subjects_meet(parents: &[u8; 16], count: usize, s: Subject, t: Subject) -> bool
+    ensures { λ b. ⌜ b ≡ subjectsMeet (take count (now (parents .entry))) s t ⌝ }
 {
     match s {
         Subject::Person(n) => match t {
@@ -28,20 +27,9 @@ pub fn subjects_meet(g: Register, s: Subject, t: Subject) -> bool
         },
         Subject::Role(n) => match t {
             Subject::Person(_) => true,
-            Subject::Role(k) => roles_meet(g, n, k),
+            Subject::Role(k) => register::roles::meet(parents, count, n, k),
         },
     }
-}
-
-// Whether some role is covered by both.
-fn roles_meet(g: Register, n: u16, k: u16) -> bool
-    ensures { λ b. ⌜ b ≡ someOf (length (contents g .roles)) (covers (contents g .roles) n) (covers (contents g .roles) k) ⌝ }
-{
-    let parents = g.roles;
-    let count = g.role_count;
-    let a = register::roles::covered_set(&parents, count, n);
-    let b = register::roles::covered_set(&parents, count, k);
-    sets::bits::meet(a, b)
 }
 
 // Whether d, which selects `chosen`, and e are of opposite effect and overlap in each dimension.
@@ -66,9 +54,10 @@ pub fn conflicts_over(g: Register, clock: u32, d: Directive, chosen: Words, e: D
     if !sets::bits::meet(d.purposes % 2048, e.purposes) {
         return false;
     }
+    let parents = g.roles;
     let s = d.subject;
     let t = e.subject;
-    if !subjects_meet(g, s, t) {
+    if !subjects_meet(&parents, g.role_count, s, t) {
         return false;
     }
     sets::words::overlap(chosen, directive::selection::selected(g, e))

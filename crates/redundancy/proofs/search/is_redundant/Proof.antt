@@ -50,7 +50,7 @@ lengths c =
 returns : tie.Need-returns
 returns c =
     let standing = c .before .before .before .before .before .before .before in
-    let minutes = standing .before .before in
+    let minutes = standing .before .before .before .before in
     let roles = minutes .before in
     let purposes = roles .before .before in
     let origins = purposes .before .before in

@@ -11,11 +11,11 @@ use Rattle.redundancy.proofs.tables.rows_of.Statement.{statement}
 use Rattle.redundancy.proofs.tables.rows_of.Tie as tie
 
 abbrev Inv-loop : tie.InvT-loop
-Inv-loop g d n active rows₀ i₀ rows i =
+Inv-loop g d n active parents count rows₀ i₀ rows i =
     (i ≤ 32) × (i ≤ n) × RowsOf (contents g) d active i rows
 
 abbrev μ-loop : tie.MeasureT-loop
-μ-loop g d n active rows₀ i₀ rows i = 32 - i
+μ-loop g d n active parents count rows₀ i₀ rows i = 32 - i
 
 loop-holds : tie.Need-loop-holds Inv-loop μ-loop
 loop-holds c = (
@@ -41,8 +41,8 @@ mul-e c = search needs
 array-copy-out-e : tie.Need-array-copy-out-e Inv-loop μ-loop
 array-copy-out-e c = search needs
 
-selected-requires : tie.Need-selected-requires Inv-loop μ-loop
-selected-requires c κs = search needs
+record-row-requires : tie.Need-record-row-requires Inv-loop μ-loop
+record-row-requires c κs = search needs
 
 role-row-requires : tie.Need-role-row-requires Inv-loop μ-loop
 role-row-requires c κs = search needs
@@ -91,8 +91,8 @@ loop-less c = search needs
 
 loop-again : tie.Need-loop-again Inv-loop μ-loop
 loop-again c =
-    let now = c .before .before .before .before .before .before .before .loop in
-    let words = c .before .before .before .selected .ensures in
+    let now = c .before .before .before .before .before .before .before .before .loop in
+    let words = c .before .before .before .before .record-row .ensures in
     let less : now .i < 32 = omega arith in (
       search needs,
       search needs,
@@ -120,7 +120,7 @@ rows-of-spec =
     returns
     mul-e
     array-copy-out-e
-    selected-requires
+    record-row-requires
     role-row-requires
     mul-rows
     element-write-rows

@@ -1,10 +1,8 @@
 -- `redundancy::standing_roles`: a person stands for no other person, and for no role.
-use mathlib.Core.Path.{_≡_, _∙_}
+use mathlib.Core.Path.{_∙_}
 use mathlib.Core.Bool.{and-true, and-false}
 use borrow.Author.Tests.{eq-eqb, ne-eqb}
 use borrow.Author.Needs.{needs}
-use lib.ListN.{length, length-take}
-use Rattle.register.specs.Register.{contents}
 use Rattle.redundancy.proofs.MaskLaws.{set-same, set-none, stands-role}
 use Rattle.redundancy.proofs.tables.standing_roles.Statement.{statement}
 use Rattle.redundancy.proofs.tables.standing_roles.Tie as tie
@@ -29,18 +27,14 @@ covered-set-requires c κs = search needs
 
 returns : tie.Need-returns
 returns c =
-    let start = c .before .before .before .before .before .before .before .before .before in
-    let l : length (start .args .g .roles) ≡ 16 = search needs in
     c .every-role .ensures
     ∙ set-same _ 16 _
     (λ k h.
     rw (
-      c .before .before .before .before .before .before .t .given .1,
-      c .before .before .before .s .given .1,
-      eq-eqb _ _ (c .before .if1 .taken),
+      c .before .before .before .before .before .before .before .t .given .1,
+      c .before .before .before .before .s .given .1,
+      eq-eqb _ _ (c .before .before .if1 .taken),
       and-true,
-      length-take,
-      l,
     ))
 
 returns-2 : tie.Need-returns-2
@@ -60,10 +54,10 @@ returns-3 c =
 
 returns-4 : tie.Need-returns-4
 returns-4 c =
-    let args = c .before .before .before .before .before .before .args in
+    let args = c .before .before .before .before .args in
     c .covered-set .ensures
     ∙ set-same _ 16 _
-    (λ k h. rw (c .before .before .before .t2 .given .1, stands-role (contents (args .g)) (args .s) _ k))
+    (λ k h. rw (c .before .before .t2 .given .1, stands-role _ (args .s) _ k))
 
 pub standing-roles-spec : {M : Type 1} → statement M
 standing-roles-spec =

@@ -12,7 +12,7 @@ use Rattle.register.proofs.ArrayLaws.{long-mapped}
 use Rattle.register.proofs.CallLaws.{failed, passed}
 use Rattle.directive.specs.Selection.{selects}
 use Rattle.directive.proofs.SelectLaws.{some-selected}
-use Rattle.meaning.specs.Search.{conflictFound}
+use Rattle.meaning.specs.Search.{subjectsMeet, conflictFound}
 use Rattle.meaning.proofs.ConflictLaws.{found-read, found-make}
 use borrow.Author.Needs.{needs}
 use Rattle.validation.proofs.conflict.conflicts_over.Statement.{statement}
@@ -77,7 +77,7 @@ few c =
 returns-6 : tie.Need-returns-6
 returns-6 c =
     let subjects-tested = c .before .before in
-    let purposes-tested = subjects-tested .before .before in
+    let purposes-tested = subjects-tested .before .before .before .before in
     let origins-tested = purposes-tested .before .before .before in
     let minutes-tested = origins-tested .before .before in
     let effects-tested = minutes-tested .before .before .before .before .before in
@@ -94,7 +94,7 @@ returns-6 c =
     found-make _ _ _ _
     (record {
       opposite = effects-tested .if1 .left;
-      subject = passed (subjects-tested .before .subjects-meet .ensures) (subjects-tested .if5 .left);
+      subject = passed {b = subjectsMeet (contents (begin .args .g) .roles) (d .subject) (e .subject)} (subjects-tested .before .subjects-meet .ensures) (subjects-tested .if5 .left);
       origin = passed (origins-tested .before .meet .ensures) (origins-tested .if3 .left);
       selected = sym records ∙ t;
       purpose = passed (purposes-tested .before .meet2 .ensures ∙ shares-low 11 16 _ _ (omega arith)) (purposes-tested .if4 .left);

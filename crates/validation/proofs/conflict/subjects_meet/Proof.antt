@@ -22,8 +22,8 @@ enum-told-2 c = search needs
 enum-known-t-2 : tie.Need-enum-known-t-2
 enum-known-t-2 c = search needs
 
-roles-meet-requires : tie.Need-roles-meet-requires
-roles-meet-requires c κs = search needs
+meet-requires : tie.Need-meet-requires
+meet-requires c κs = search needs
 
 returns : tie.Need-returns
 returns c = rw (c .before .before .before .before .s .given .1, c .before .t .given .1)
@@ -36,7 +36,7 @@ returns-3 c = search needs
 
 returns-4 : tie.Need-returns-4
 returns-4 c =
-    c .roles-meet .ensures ∙ rw (c .before .before .before .before .before .s2 .given .1, c .before .before .t2 .given .1)
+    c .meet .ensures ∙ rw (c .before .before .before .before .before .s2 .given .1, c .before .before .t2 .given .1)
 
 pub subjects-meet-spec : {M : Type 1} → statement M
 subjects-meet-spec =
@@ -48,7 +48,7 @@ subjects-meet-spec =
     enum-known-s-2
     enum-told-2
     enum-known-t-2
-    roles-meet-requires
+    meet-requires
     returns
     returns-2
     returns-3
