@@ -1,3 +1,4 @@
 pub mod MatchLaws
 pub mod SelectLaws
+pub mod StoreLaws
 pub mod LowestLaws

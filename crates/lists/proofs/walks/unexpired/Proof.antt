@@ -1,20 +1,22 @@
--- `lists::unexpired` is a walk that keeps what has not ended.
+-- `walks::unexpired` is a walk that keeps what has not ended.
 use Prim.Native.Nat.{_-_}
 use mathlib.Core.Bool.{not}
 use borrow.Author.Needs.{needs}
 use lib.Dec.{leb}
-use Rattle.lists.proofs.WalkLaws.{not-ended, Walked, walked-none, walked-next, walked-all}
+use Rattle.lists.proofs.WalkLaws.{not-ended}
+use Rattle.lists.proofs.CarryLaws.{Carried, carried-none, carried-next, carried-all}
 use Rattle.lists.proofs.walks.unexpired.Statement.{statement}
 use Rattle.lists.proofs.walks.unexpired.Tie as tie
 
 abbrev Inv-loop : tie.InvT-loop
-Inv-loop n t items kept₀ at₀ i₀ kept at i = Walked (λ d. not (leb (d .until) t)) items n kept at i
+Inv-loop n t items low high kept₀ kept-low₀ kept-high₀ at₀ i₀ kept kept-low kept-high at i =
+    Carried (λ d. not (leb (d .until) t)) items low high n kept kept-low kept-high at i
 
 abbrev μ-loop : tie.MeasureT-loop
-μ-loop n t items kept₀ at₀ i₀ kept at i = n - i
+μ-loop n t items low high kept₀ kept-low₀ kept-high₀ at₀ i₀ kept kept-low kept-high at i = n - i
 
 loop-holds : tie.Need-loop-holds Inv-loop μ-loop
-loop-holds c = walked-none _ (c .args .t1) (c .args .n) (search needs)
+loop-holds c = carried-none _ (c .args .t1) (c .args .t2) (c .args .t3) (c .args .n) (search needs) (search needs) (search needs)
 
 mul-d : tie.Need-mul-d Inv-loop μ-loop
 mul-d c = search needs
@@ -28,6 +30,30 @@ mul-kept c = search needs
 array-set-from-kept : tie.Need-array-set-from-kept Inv-loop μ-loop
 array-set-from-kept c = search needs
 
+mul-kept-low : tie.Need-mul-kept-low Inv-loop μ-loop
+mul-kept-low c = search needs
+
+array-read-kept-low : tie.Need-array-read-kept-low Inv-loop μ-loop
+array-read-kept-low c = search needs
+
+mul-kept-low-2 : tie.Need-mul-kept-low-2 Inv-loop μ-loop
+mul-kept-low-2 c = search needs
+
+array-write-kept-low : tie.Need-array-write-kept-low Inv-loop μ-loop
+array-write-kept-low c = search needs
+
+mul-kept-high : tie.Need-mul-kept-high Inv-loop μ-loop
+mul-kept-high c = search needs
+
+array-read-kept-high : tie.Need-array-read-kept-high Inv-loop μ-loop
+array-read-kept-high c = search needs
+
+mul-kept-high-2 : tie.Need-mul-kept-high-2 Inv-loop μ-loop
+mul-kept-high-2 c = search needs
+
+array-write-kept-high : tie.Need-array-write-kept-high Inv-loop μ-loop
+array-write-kept-high c = search needs
+
 step-requires : tie.Need-step-requires Inv-loop μ-loop
 step-requires c κs = search needs
 
@@ -40,10 +66,11 @@ loop-less c = search needs
 loop-again : tie.Need-loop-again Inv-loop μ-loop
 loop-again c =
     let now = c .before .before .before .before in
-    walked-next _ (λ d. not-ended (now .before .args .t) (d .until)) _ (now .loop .inv) (search needs) (c .step .ensures)
+    carried-next _ (λ d. not-ended (now .before .args .t) (d .until)) (now .loop .inv) (search needs)
+    (c .step .ensures)
 
 returns : tie.Need-returns Inv-loop μ-loop
-returns c = walked-all _ (c .loop-test .left) (c .before .loop .inv)
+returns c = carried-all _ (c .loop-test .left) (c .before .loop .inv)
 
 pub unexpired-spec : {M : Type 1} → statement M
 unexpired-spec =
@@ -56,6 +83,14 @@ unexpired-spec =
     array-copy-out-d
     mul-kept
     array-set-from-kept
+    mul-kept-low
+    array-read-kept-low
+    mul-kept-low-2
+    array-write-kept-low
+    mul-kept-high
+    array-read-kept-high
+    mul-kept-high-2
+    array-write-kept-high
     step-requires
     add-i
     loop-less
