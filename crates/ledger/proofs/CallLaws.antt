@@ -1,5 +1,4 @@
--- Laws of what the calls promise: of a refusal, and of a change that keeps the register. Laws of the lists that an array and
--- a count hold.
+-- Laws of what the calls promise: of a refusal, and of a change that keeps the register. Of what a walk drops.
 use Prim.Native.Nat.{ℕ, _-_, _≤_, min}
 use mathlib.Core.Path.{_≡_, refl, sym, ap, _∙_}
 use mathlib.Core.Bool.{Bool, not}
@@ -44,19 +43,6 @@ module _ {l : Ledger} {o : Outcome} (sound : Sound l) where
               model = rw e at still;
             };
       }
-
--- a count past the end takes what is there
-pub take-held : {A : Type 0} (l : List A) (n k : ℕ) → length l ≡ k → take (min n k) l ≡ take n l
-take-held l n k long =
-    ⊎-elim
-    (λ e.
-    let h = leb-true n k e in
-    let same : min n k ≡ n = omega arith in
-    rw same)
-    (λ e.
-    let h = leb-false n k e in
-    take-all (min n k) l (omega arith) ∙ sym (take-all n l (omega arith)))
-    (either-way (leb n k))
 
 -- of n elements those that pass are as many as the k that do not are fewer
 pub dropped-count :

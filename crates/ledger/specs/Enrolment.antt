@@ -7,38 +7,16 @@ use lib.ListN.{length}
 use lib.Dec.{eqb, leb, ltb}
 use Rattle.sets.specs.Quantifiers.{pick}
 use Rattle.register.specs.declared.Record.{Record}
-use Rattle.register.specs.Register.{Contents}
 use Rattle.register.specs.Tree.{isTree}
 use Rattle.register.specs.Form.{recordFits}
 use Rattle.ledger.specs.declared.Ledger.{Ledger}
-use Rattle.model.specs.Model.{Model}
+use Rattle.model.specs.Model.{Model, beginning, withRegister}
 use Rattle.ledger.specs.State.{view}
 use Rattle.ledger.specs.Sound.{Sound}
-
--- patient and clock, and nothing else
-abbrev pub beginning : ℕ → ℕ → Model
-beginning patient clock =
-    record {
-      patient = patient;
-      clock = clock;
-      register = record { roles = []; records = [] };
-      active = [];
-      tokens = [];
-    }
 
 pub record Begins (patient clock : ℕ) (l : Ledger) : Type 0 where
   pub ledger : view l ≡ beginning patient clock
   pub sound : Sound l
-
-abbrev pub withRegister : Model → Contents → Model
-withRegister m c =
-    record {
-      patient = m .patient;
-      clock = m .clock;
-      register = c;
-      active = m .active;
-      tokens = m .tokens;
-    }
 
 -- A step that leaves the ledger alone where its test fails.
 pub record Enrols (l : Ledger) (fits : Bool) (m : Model) (after : Ledger) : Type 0 where

@@ -14,7 +14,7 @@ use Rattle.register.specs.Roles.{covers}
 use Rattle.register.specs.Records.{reaches}
 use Rattle.directive.specs.Selection.{passesFilters, selects}
 use Rattle.directive.specs.Matching.{matches}
-use Rattle.drafts.specs.Form.{draftOf, keepsRanges, directiveOf, directiveBytes, wellFormed}
+use Rattle.drafts.specs.Form.{numbersOf, draftOf, keepsRanges, directiveOf, directiveBytes, wellFormed}
 use Rattle.meaning.specs.Requests.{persons}
 use Rattle.meaning.specs.Search.{overlap, conflictFound, breaksBaselineFound, admits, redundantFound}
 use Rattle.meaning.specs.Judgement.{meant}
@@ -119,7 +119,7 @@ holds (selection s xs) e = same-list Bool·beq beq-true _ xs e
 all-check : allIn checks cases ≡ true
 unfolding checks runs sameList written searchable cases sample sampleRecords drafting
     allBelow someBelow countBelow allOf someOf allIn someIn keep count setOf numberFrom bytes
-    aboveBy covers reaches passesFilters selects matches draftOf directiveOf directiveBytes keepsRanges wellFormed
+    aboveBy covers reaches passesFilters selects matches numbersOf draftOf directiveOf directiveBytes keepsRanges wellFormed
     overlap conflictFound breaksBaselineFound admits redundantFound
     scope disclosed briefWord briefCount lowest decision firstNo directiveQuestions draftQuestions
     committedBy advanced issued decided briefed
