@@ -2,23 +2,18 @@
 use Prim.Native.Nat.{ℕ, zero, suc, _<_, _≤_}
 use mathlib.Core.Path.{_≡_, refl, ap}
 use mathlib.Core.Bool.{Bool, true, false, not}
-use mathlib.Core.List.{List, [], _∷_, _++_}
-use native.Mathlib.Numerals.{add-one}
+use mathlib.Core.List.{List, [], _∷_}
 use native.Mathlib.Omega.{arith}
-use borrow.Author.Tests.{leb-true, ltb-true, lt-ltb, eqb-true, ne-eqb}
-use lib.ListN.{length, length-append, drop-of-length-le, List·getD-append}
-use lib.Seq.{getD-append-seam}
+use borrow.Author.Tests.{leb-true, ltb-true, eqb-true, ne-eqb}
+use lib.ListN.{length}
 use lib.Dec.{eqb}
-use Rattle.sets.specs.Quantifiers.{pick, allBelow, allIn, pairwise}
+use Rattle.sets.specs.Quantifiers.{pick, allIn, pairwise}
 use Rattle.sets.specs.Numbers.{numberAt, isBytes}
 use Rattle.sets.proofs.Quantifiers.{both-ways, and-left, and-right}
-use Rattle.sets.proofs.Ranges.{all-same}
 use Rattle.sets.proofs.Lists.{none-in, all-append, all-take, all-drop}
 use Rattle.sets.proofs.Numbers.{number-at-bound, bytes-are-bytes}
-use Rattle.register.specs.declared.Record.{Record}
-use Rattle.register.specs.Register.{Contents, noRecord}
-use Rattle.register.specs.Records.{recordAt}
-use Rattle.register.specs.Form.{recordOf, recordFits, recordWidths}
+use Rattle.register.specs.Register.{Contents}
+use Rattle.register.specs.Form.{recordOf}
 use Rattle.register.proofs.FormLaws.{record-widths}
 use Rattle.directive.specs.declared.Directive.{Directive}
 use Rattle.drafts.specs.Form.{everyPurpose, withPurposes}

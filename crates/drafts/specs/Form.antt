@@ -1,6 +1,6 @@
 -- The bytes of a directive: 25 in edition 2 and in a draft, 23 in edition 1.
 use Prim.Native.Nat.{ℕ, _+_}
-use mathlib.Core.Bool.{Bool, false, _&&_}
+use mathlib.Core.Bool.{Bool, _&&_}
 use mathlib.Core.List.{List, _++_}
 use lib.ListN.{take, drop}
 use lib.Dec.{eqb, leb}

@@ -1,15 +1,13 @@
 -- Laws of an entry: which entry a tag and a length write, and what it takes to perform it.
 use Prim.Native.Nat.{ℕ, min}
-use mathlib.Core.Path.{_≡_, refl, sym, ap, _∙_}
+use mathlib.Core.Path.{_≡_, refl, ap, _∙_}
 use mathlib.Core.Bool.{Bool, true, false}
-use mathlib.Core.Logic.{⊎-elim}
-use mathlib.Core.List.{List, [], _++_}
-use native.Mathlib.Omega.{arith}
-use borrow.Author.Tests.{eqb-true, leb-true, leb-false}
+use mathlib.Core.List.{List, _++_}
+use borrow.Author.Tests.{eqb-true}
 use lib.ListN.{length, take, drop, length-take}
-use lib.Dec.{eqb, leb}
+use lib.Dec.{eqb}
 use Rattle.sets.specs.Quantifiers.{pick}
-use Rattle.sets.proofs.Quantifiers.{either-way, never-true}
+use Rattle.sets.proofs.Quantifiers.{never-true}
 use Rattle.sets.proofs.Lists.{take-held, drop-held}
 use Rattle.meaning.specs.Judgement.{meant}
 use Rattle.ledger.specs.declared.Ledger.{Ledger}

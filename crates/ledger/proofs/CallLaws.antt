@@ -1,16 +1,13 @@
 -- Laws of what the calls promise: of a refusal, and of a change that keeps the register. Of what a walk drops.
-use Prim.Native.Nat.{ℕ, _-_, _≤_, min}
-use mathlib.Core.Path.{_≡_, refl, sym, ap, _∙_}
+use Prim.Native.Nat.{ℕ, _-_, _≤_}
+use mathlib.Core.Path.{_≡_, refl, ap}
 use mathlib.Core.Bool.{Bool, not}
-use mathlib.Core.Logic.{⊎-elim}
 use mathlib.Core.List.{List}
 use native.Mathlib.Omega.{arith}
-use borrow.Author.Tests.{leb-true, leb-false}
 use lib.ListN.{length, take}
-use lib.Seq.{length-take-le, take-all}
-use lib.Dec.{leb}
+use lib.Seq.{length-take-le}
 use Rattle.sets.specs.Quantifiers.{keep, count}
-use Rattle.sets.proofs.Quantifiers.{either-way, both-ways}
+use Rattle.sets.proofs.Quantifiers.{both-ways}
 use Rattle.sets.proofs.Keep.{count-keep}
 use Rattle.ledger.specs.declared.Ledger.{Ledger}
 use Rattle.ledger.specs.State.{view}

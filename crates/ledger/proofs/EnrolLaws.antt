@@ -2,21 +2,18 @@
 use Prim.Native.Nat.{ℕ, _<_, _≤_}
 use mathlib.Core.Path.{_≡_, refl, ap}
 use mathlib.Core.Bool.{Bool, true}
-use mathlib.Core.List.{List, [], _∷_, _++_}
-use native.Mathlib.Decide.{decLt}
+use mathlib.Core.List.{List}
 use native.Mathlib.Omega.{arith}
 use borrow.Author.Tests.{lt-ltb, ltb-true, le-leb, leb-true, eq-eqb, eqb-true}
-use lib.ListN.{length, length-append, List·getD-append}
-use lib.Seq.{length-take-le, getD-at}
-use Rattle.sets.specs.Quantifiers.{allIn, pairwise}
-use Rattle.sets.proofs.Quantifiers.{both-ways, never-true, and-left, and-right, every-below}
+use lib.ListN.{length}
+use lib.Seq.{length-take-le}
+use Rattle.sets.proofs.Quantifiers.{both-ways, never-true, and-left, and-right}
 use Rattle.sets.proofs.Lists.{none-in}
 use Rattle.register.specs.declared.Record.{Record}
 use Rattle.register.specs.declared.Register.{Register}
-use Rattle.register.specs.Register.{Contents, contents, noRecord}
+use Rattle.register.specs.Register.{Contents, contents}
 use Rattle.register.specs.Tree.{isTree}
-use Rattle.register.specs.Records.{recordAt}
-use Rattle.register.specs.Form.{recordFits, recordWidths}
+use Rattle.register.specs.Form.{recordFits}
 use Rattle.ledger.specs.declared.Ledger.{Ledger}
 use Rattle.model.specs.Model.{Model, withRegister}
 use Rattle.ledger.specs.State.{view}
