@@ -19,7 +19,7 @@ use Rattle.drafts.specs.declared.Draft.{Draft}
 abbrev pub draftSize : ℕ
 draftSize = 25
 
--- the numbers that these bytes write, whatever they are, with these purposes and with the minutes from that place on
+-- the numbers of these bytes, with these purposes, and with from and until at the place `minutes`
 unfoldable pub numbersOf : ℕ → ℕ → List ℕ → Draft
 numbersOf purposes minutes s =
     record {
@@ -38,7 +38,7 @@ numbersOf purposes minutes s =
       until = numberAt (minutes + 4) 4 s;
     }
 
--- the numbers that 25 bytes write
+-- the numbers that 25 bytes write, whatever they are
 unfoldable pub draftOf : List ℕ → Draft
 draftOf s = numbersOf (numberAt 15 2 s) 17 s
 

@@ -10,7 +10,7 @@ ghost use Rattle.sets.specs.Quantifiers.{oneIf};
 ghost use Rattle.drafts.specs.Form.{draftSize, firstEditionSize, numbersOf, draftOf, withPurposes, keepsRanges, subjectOf, directiveOf, directiveBytes, kindOf};
 ghost use Rattle.directive.specs.Matching.{numberOf};
 
-// The numbers of a directive's bytes, with these purposes and with the minutes from that place on.
+// The numbers of a directive's bytes, with these purposes, and with from and until at the place `minutes`.
 fn numbers_of(s: &[u8], purposes: u16, minutes: usize) -> Draft
     requires { ⌜ (15 ≤ minutes) × (minutes + 8 ≤ length (now s)) ⌝ }
     ensures { λ d. ⌜ d ≡ numbersOf purposes minutes (now (s .entry)) ⌝ }

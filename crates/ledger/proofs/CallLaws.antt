@@ -1,4 +1,4 @@
--- Laws of what the calls promise: of a refusal, and of a change that keeps the register. Of what a walk drops.
+-- Laws of what the calls promise: of a refusal, of a change that keeps the register, and of how many a walk drops.
 use Prim.Native.Nat.{ℕ, _-_, _≤_}
 use mathlib.Core.Path.{_≡_, refl, ap}
 use mathlib.Core.Bool.{Bool, not}

@@ -14,6 +14,7 @@ use Rattle.model.specs.Model.{Model, beginning, withRegister}
 use Rattle.ledger.specs.State.{view}
 use Rattle.ledger.specs.Sound.{Sound}
 
+-- a ledger of a patient and a clock, and nothing else
 pub record Begins (patient clock : ℕ) (l : Ledger) : Type 0 where
   pub ledger : view l ≡ beginning patient clock
   pub sound : Sound l

@@ -1,5 +1,5 @@
--- Laws of a list of no elements and of a count past its end. Laws of tests over lists: of the parts of a list, of its places, of one element more, of
--- negation, of any two elements, and of two tests that agree on its elements.
+-- Laws of a list of no elements and of a count past a list's end. Laws of tests over lists: of the parts of a list, of its
+-- places, of one element more, of negation, of any two elements, and of two tests that agree on its elements.
 use Prim.Native.Nat.{ℕ, zero, suc, _<_}
 use mathlib.Core.Path.{_≡_, refl, ap, sym, _∙_}
 use mathlib.Core.Bool.{Bool, true, false, _&&_, _||_, not, and-true, and-assoc, and-comm, or-false, or-assoc}
