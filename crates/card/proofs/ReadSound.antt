@@ -2,23 +2,18 @@
 use Prim.Native.Nat.{ℕ, zero, suc, _<_, _≤_}
 use mathlib.Core.Path.{_≡_, refl, ap}
 use mathlib.Core.Bool.{Bool, true, false, not}
-use mathlib.Core.List.{List, [], _∷_, _++_}
-use native.Mathlib.Numerals.{add-one}
+use mathlib.Core.List.{List, [], _∷_}
 use native.Mathlib.Omega.{arith}
-use borrow.Author.Tests.{leb-true, ltb-true, lt-ltb, eqb-true, ne-eqb}
-use lib.ListN.{length, length-append, drop-of-length-le, List·getD-append}
-use lib.Seq.{getD-append-seam}
+use borrow.Author.Tests.{leb-true, ltb-true, eqb-true, ne-eqb}
+use lib.ListN.{length}
 use lib.Dec.{eqb}
-use Rattle.sets.specs.Quantifiers.{pick, allBelow, allIn, pairwise}
+use Rattle.sets.specs.Quantifiers.{pick, allIn, pairwise}
 use Rattle.sets.specs.Numbers.{numberAt, isBytes}
 use Rattle.sets.proofs.Quantifiers.{both-ways, and-left, and-right}
-use Rattle.sets.proofs.Ranges.{all-same}
-use Rattle.sets.proofs.Lists.{all-append, all-snoc, all-take, all-drop}
+use Rattle.sets.proofs.Lists.{none-in, all-append, all-take, all-drop}
 use Rattle.sets.proofs.Numbers.{number-at-bound, bytes-are-bytes}
-use Rattle.register.specs.declared.Record.{Record}
-use Rattle.register.specs.Register.{Contents, noRecord}
-use Rattle.register.specs.Records.{recordAt}
-use Rattle.register.specs.Form.{recordOf, recordFits, recordWidths}
+use Rattle.register.specs.Register.{Contents}
+use Rattle.register.specs.Form.{recordOf}
 use Rattle.register.proofs.FormLaws.{record-widths}
 use Rattle.directive.specs.declared.Directive.{Directive}
 use Rattle.drafts.specs.Form.{everyPurpose, withPurposes}
@@ -28,10 +23,10 @@ use Rattle.model.specs.Answer.{done}
 use Rattle.model.specs.Questions.{passes}
 use Rattle.model.specs.Sound.{SoundRegister, stands, SoundModel}
 use Rattle.model.proofs.Questions.{outcome-by}
-use Rattle.ledger.proofs.Beginning.{empty-model-sound}
+use Rattle.model.proofs.Enrolled.{beginning-sound, empty-model-sound, sound-with, sound-roles, sound-record}
 use Rattle.model.proofs.Soundness.{sound-draft}
 use Rattle.card.specs.Grammar.{Tag, head, roles, item, directive, other, fieldTag, fieldValue}
-use Rattle.card.specs.Reading.{Progress, nothingRead, isEmpty, lastEdition, hasPlace, valueQuestions, fieldQuestions, withRegister, withField, cardQuestions, contentOf, reading}
+use Rattle.card.specs.Reading.{Progress, nothingRead, isEmpty, lastEdition, hasPlace, valueQuestions, fieldQuestions, withField, cardQuestions, contentOf, reading}
 use Rattle.card.proofs.Step.{next}
 use Rattle.card.proofs.Fields.{value-bytes, after-bytes}
 use Rattle.card.proofs.Accepted.{Accepted, ended, one-more, passed-of, accepted-of}
@@ -47,10 +42,7 @@ pub nothing-sound : SoundSoFar nothingRead
 nothing-sound =
     record { model = empty-model-sound; no-tokens = refl; before-head = λ _. refl; edition-most = omega arith }
 
--- a list that is empty, and one that is not
-pub none-in : {A : Type 0} (l : List A) → length l ≡ 0 → l ≡ []
-none-in l e = drop-of-length-le l {i = 0} (omega arith)
-
+-- a list that is not empty
 pub some-in : {A : Type 0} (l : List A) → not (isEmpty l) ≡ true → 0 < length l
 some-in [] e = both-ways e refl
 some-in (x ∷ l) e = omega arith
@@ -75,20 +67,6 @@ none-stand m (d ∷ ds) e z =
 pub no-directives : (m : Model) → SoundModel m → length (m .register .roles) ≡ 0 → m .active ≡ []
 no-directives m h e =
     none-stand m (m .active) (h .active-stand) (ap length (no-records (m .register) (h .register) e))
-
--- one record more
-records-fit-more :
-    (rs : List Record) (r : Record) → allBelow (length rs) (λ x. recordFits x (recordAt rs x)) ≡ true →
-    recordFits (length rs) r ≡ true →
-    allBelow (length (rs ++ (r ∷ []))) (λ x. recordFits x (recordAt (rs ++ (r ∷ [])) x)) ≡ true
-unfolding allBelow
-records-fit-more rs r e fits =
-    let more = rs ++ (r ∷ []) in
-    let before =
-    all-same (λ x. recordFits x (recordAt rs x)) (λ x. recordFits x (recordAt more x)) (length rs)
-    (λ x h. rw (List·getD-append rs (r ∷ []) noRecord x h))
-    in
-    rw (length-append, add-one, getD-append-seam rs r [] noRecord, fits, ← before, e)
 
 -- the 25 bytes that a directive's value stands for are bytes
 draft-bytes : (v : List ℕ) → isBytes v ≡ true → (first : Bool) → isBytes (pick first (withPurposes v) v) ≡ true
@@ -116,73 +94,31 @@ module _ (p : Progress) (h : SoundSoFar p) where
       begun (λ m. length (m .register .records)) refl (some-in (p .model .register .records) (search and-left))
   edition-read other v placed passed = both-ways placed refl
 
-  -- another register, where there are no directives yet
-  register-model : (c : Contents) → SoundRegister c → p .model .active ≡ [] → SoundModel (withRegister p c .model)
-  unfolding allIn pairwise
-  register-model c sound none =
-      record {
-        patient-in = h .model .patient-in;
-        clock-in = h .model .clock-in;
-        register = sound;
-        active-few = h .model .active-few;
-        active-stand = rw none;
-        active-differ = h .model .active-differ;
-        baseline-kept = rw none;
-        no-clash = rw none;
-        tokens-few = h .model .tokens-few;
-        tokens-live = h .model .tokens-live;
-        tokens-differ = h .model .tokens-differ;
-      }
-
   -- the model with one field more
   sound-model :
       (t : Tag) (v : List ℕ) → isBytes v ≡ true → hasPlace p t (length v) ≡ true →
       passes (valueQuestions meant p t v) ≡ true → SoundModel (withField p t v .model)
   unfolding allIn pairwise
-  sound-model head v e placed passed =
-      record {
-        patient-in = lt-ltb _ _ (number-at-bound 1 2 v e);
-        clock-in = lt-ltb _ _ (number-at-bound 3 4 v e);
-        register = empty-model-sound .register;
-        active-few = empty-model-sound .active-few;
-        active-stand = refl;
-        active-differ = refl;
-        baseline-kept = refl;
-        no-clash = refl;
-        tokens-few = empty-model-sound .tokens-few;
-        tokens-live = refl;
-        tokens-differ = refl;
-      }
+  sound-model head v e placed passed = beginning-sound _ _ (number-at-bound 1 2 v e) (number-at-bound 3 4 v e)
   sound-model roles v e placed passed =
-      let register = h .model .register in
       let empty : isEmpty (p .model .register .roles) ≡ true = search (and-left, and-right) in
       let least = leb-true 1 (length v) (search (and-left, and-right)) in
-      register-model _
-      (record {
-        roles-few = leb-true (length v) 16 (search (and-left, and-right));
-        roles-tree = and-left _ _ passed;
-        records-few = register .records-few;
-        records-fit = register .records-fit;
-        records-wide = register .records-wide;
-        roles-with-records = λ _. least;
-      })
+      sound-with (p .model) _ (h .model)
       (no-directives (p .model) (h .model) (eqb-true _ 0 empty))
+      (sound-roles (p .model .register) (h .model .register) v
+      (leb-true (length v) 16 (search (and-left, and-right)))
+      (and-left _ _ passed)
+      (λ _. least))
   sound-model item v e placed passed =
       let c = p .model .register in
-      let register = h .model .register in
-      let some-roles = some-in (c .roles) (search and-left) in
       let none : isEmpty (p .model .active) ≡ true = search (and-left, and-right) in
-      let room = ltb-true (length (c .records)) 128 (search and-left) in
-      register-model _
-      (record {
-        roles-few = register .roles-few;
-        roles-tree = register .roles-tree;
-        records-few = rw length-append (omega arith);
-        records-fit = records-fit-more (c .records) (recordOf v) (register .records-fit) (search (and-left, and-right));
-        records-wide = all-snoc recordWidths (c .records) (recordOf v) (register .records-wide) (record-widths v e);
-        roles-with-records = λ _. some-roles;
-      })
+      sound-with (p .model) _ (h .model)
       (none-in (p .model .active) (eqb-true _ 0 none))
+      (sound-record c (h .model .register) (recordOf v)
+      (some-in (c .roles) (search and-left))
+      (ltb-true (length (c .records)) 128 (search and-left))
+      (search (and-left, and-right))
+      (record-widths v e))
   sound-model directive v e placed passed =
       sound-draft (p .model) (h .model) _ (draft-bytes v e (eqb (p .edition) 1)) passed
   sound-model other v e placed passed = both-ways placed refl

@@ -5,13 +5,12 @@ use mathlib.Core.List.{List, [], _∷_, _++_}
 use lib.ListN.{length}
 use lib.Dec.{eqb, leb, ltb}
 use Rattle.sets.specs.Quantifiers.{pick}
-use Rattle.register.specs.Register.{Contents}
 use Rattle.register.specs.Tree.{isTree}
 use Rattle.register.specs.Form.{recordSize, recordOf, recordFits}
 use Rattle.drafts.specs.declared.Draft.{Draft}
 use Rattle.drafts.specs.Form.{draftSize, firstEditionSize, draftOf, withPurposes, directiveOf}
 use Rattle.meaning.specs.Judgement.{Judgement, meant}
-use Rattle.model.specs.Model.{Model, withActive, emptyModel}
+use Rattle.model.specs.Model.{Model, beginning, emptyModel, withRegister, withActive}
 use Rattle.model.specs.Answer.{done, refusal}
 use Rattle.model.specs.Questions.{Question, ask, Outcome, outcome, directiveQuestions}
 use Rattle.card.specs.Form.{headSize, headOf}
@@ -73,46 +72,22 @@ fieldQuestions j p s =
 
 -- what was read with one field more
 abbrev pub withHead : List ℕ → Progress
-withHead v =
-    record {
-      edition = headOf v .edition;
-      model =
-          record {
-            patient = headOf v .patient;
-            clock = headOf v .clock;
-            register = record { roles = []; records = [] };
-            active = [];
-            tokens = [];
-          };
-    }
+withHead v = record { edition = headOf v .edition; model = beginning (headOf v .patient) (headOf v .clock) }
 
-abbrev pub withRegister : Progress → Contents → Progress
-withRegister p c =
-    record {
-      edition = p .edition;
-      model =
-          record {
-            patient = p .model .patient;
-            clock = p .model .clock;
-            register = c;
-            active = p .model .active;
-            tokens = p .model .tokens;
-          };
-    }
+abbrev pub withModel : Progress → Model → Progress
+withModel p m = record { edition = p .edition; model = m }
 
 abbrev pub withDirective : Progress → List ℕ → Progress
 withDirective p v =
-    record {
-      edition = p .edition;
-      model = withActive (p .model) (p .model .active ++ (directiveOf (directiveDraft (p .edition) v) ∷ []));
-    }
+    withModel p (withActive (p .model) (p .model .active ++ (directiveOf (directiveDraft (p .edition) v) ∷ [])))
 
 abbrev pub withField : Progress → Tag → List ℕ → Progress
 withField p head v = withHead v
-withField p roles v = withRegister p (record { roles = v; records = p .model .register .records })
+withField p roles v = withModel p (withRegister (p .model) (record { roles = v; records = p .model .register .records }))
 withField p item v =
-    withRegister p
-    (record { roles = p .model .register .roles; records = p .model .register .records ++ (recordOf v ∷ []) })
+    withModel p
+    (withRegister (p .model)
+    (record { roles = p .model .register .roles; records = p .model .register .records ++ (recordOf v ∷ []) }))
 withField p directive v = withDirective p v
 withField p other v = p
 

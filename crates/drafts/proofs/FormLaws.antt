@@ -24,7 +24,7 @@ use Rattle.directive.specs.declared.Subject.{Subject}
 use Rattle.directive.specs.declared.Subject.the-variants.{Person, Role}
 use Rattle.directive.specs.declared.Directive.{Directive}
 use Rattle.drafts.specs.declared.Draft.{Draft}
-use Rattle.drafts.specs.Form.{draftSize, draftOf, everyPurpose, keepsRanges, subjectOf, directiveOf, kindOf, directiveBytes, wellFormed}
+use Rattle.drafts.specs.Form.{draftSize, numbersOf, draftOf, everyPurpose, keepsRanges, subjectOf, directiveOf, kindOf, directiveBytes, wellFormed}
 use Rattle.directive.specs.Matching.{numberOf}
 
 pub length-directive : (d : Directive) → length (directiveBytes d) ≡ draftSize
@@ -144,7 +144,7 @@ draftFor d =
 
 module _ (d : Directive) (e : wellFormed d ≡ true) where
   pub draft-written : draftOf (directiveBytes d) ≡ draftFor d
-  unfolding draftOf directiveBytes bytes numberFrom
+  unfolding numbersOf draftOf directiveBytes bytes numberFrom
   draft-written =
       let f = formed d e in
       rw (
@@ -235,7 +235,7 @@ pub record Widths (d : Draft) : Type 0 where
   pub until : d .until < 2 ^ 32
 
 pub bytes-wide : (s : List ℕ) → isBytes s ≡ true → Widths (draftOf s)
-unfolding draftOf
+unfolding numbersOf draftOf
 bytes-wide s e =
     record {
       number = number-at-bound 0 2 s e;
@@ -277,7 +277,7 @@ draft-formed d w r =
 pub encode-decode :
     (s : List ℕ) → length s ≡ draftSize → isBytes s ≡ true → keepsRanges (draftOf s) ≡ true →
     directiveBytes (directiveOf (draftOf s)) ≡ s
-unfolding directiveBytes directiveOf draftOf
+unfolding directiveBytes directiveOf numbersOf draftOf
 encode-decode s l e r =
     let k = kept (draftOf s) r in
     let to-number = bytes-next s 0 2 [] e (omega arith) refl in

@@ -1,6 +1,6 @@
 -- The bytes of a directive: 25 in edition 2 and in a draft, 23 in edition 1.
-use Prim.Native.Nat.{ℕ}
-use mathlib.Core.Bool.{Bool, false, _&&_}
+use Prim.Native.Nat.{ℕ, _+_}
+use mathlib.Core.Bool.{Bool, _&&_}
 use mathlib.Core.List.{List, _++_}
 use lib.ListN.{take, drop}
 use lib.Dec.{eqb, leb}
@@ -19,9 +19,9 @@ use Rattle.drafts.specs.declared.Draft.{Draft}
 abbrev pub draftSize : ℕ
 draftSize = 25
 
--- the numbers that 25 bytes write, whatever they are
-unfoldable pub draftOf : List ℕ → Draft
-draftOf s =
+-- the numbers of these bytes, with these purposes, and with from and until at the place `minutes`
+unfoldable pub numbersOf : ℕ → ℕ → List ℕ → Draft
+numbersOf purposes minutes s =
     record {
       number = numberAt 0 2 s;
       effect = numberAt 2 1 s;
@@ -33,10 +33,14 @@ draftOf s =
       origins = numberAt 10 2 s;
       sensitivities = numberAt 12 2 s;
       kinds = numberAt 14 1 s;
-      purposes = numberAt 15 2 s;
-      from = numberAt 17 4 s;
-      until = numberAt 21 4 s;
+      purposes = purposes;
+      from = numberAt minutes 4 s;
+      until = numberAt (minutes + 4) 4 s;
     }
+
+-- the numbers that 25 bytes write, whatever they are
+unfoldable pub draftOf : List ℕ → Draft
+draftOf s = numbersOf (numberAt 15 2 s) 17 s
 
 -- bits 0..10
 abbrev pub everyPurpose : ℕ

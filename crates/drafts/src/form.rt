@@ -3,19 +3,19 @@ use crate::Draft;
 use directive::Directive;
 use directive::Subject;
 ghost use mathlib.Core.Path.{_≡_};
-ghost use mathlib.Core.List.{_++_};
 ghost use Prim.Native.Nat.{_+_, _≤_};
 ghost use lib.ListN.{length};
 ghost use lib.Seq.{sets};
 ghost use Rattle.sets.specs.Quantifiers.{oneIf};
-ghost use Rattle.drafts.specs.Form.{draftSize, firstEditionSize, draftOf, withPurposes, keepsRanges, subjectOf, directiveOf, directiveBytes, kindOf};
+ghost use Rattle.drafts.specs.Form.{draftSize, firstEditionSize, numbersOf, draftOf, withPurposes, keepsRanges, subjectOf, directiveOf, directiveBytes, kindOf};
 ghost use Rattle.directive.specs.Matching.{numberOf};
 
-// The numbers of the 25 bytes of edition 2 and of a draft.
-pub fn draft_of(s: &[u8]) -> Draft
-    requires { ⌜ draftSize ≤ length (now s) ⌝ }
-    ensures { λ d. ⌜ d ≡ draftOf (now (s .entry)) ⌝ }
+// The numbers of a directive's bytes, with these purposes, and with from and until at the place `minutes`.
+fn numbers_of(s: &[u8], purposes: u16, minutes: usize) -> Draft
+    requires { ⌜ (15 ≤ minutes) × (minutes + 8 ≤ length (now s)) ⌝ }
+    ensures { λ d. ⌜ d ≡ numbersOf purposes minutes (now (s .entry)) ⌝ }
 {
+    let last = minutes + 4;
     Draft {
         number: sets::number::get2(s, 0),
         effect: sets::number::get1(s, 2),
@@ -27,10 +27,18 @@ pub fn draft_of(s: &[u8]) -> Draft
         origins: sets::number::get2(s, 10),
         sensitivities: sets::number::get2(s, 12),
         kinds: sets::number::get1(s, 14),
-        purposes: sets::number::get2(s, 15),
-        from: sets::number::get4(s, 17),
-        until: sets::number::get4(s, 21),
+        purposes: purposes,
+        from: sets::number::get4(s, minutes),
+        until: sets::number::get4(s, last),
     }
+}
+
+// The numbers of the 25 bytes of edition 2 and of a draft.
+pub fn draft_of(s: &[u8]) -> Draft
+    requires { ⌜ draftSize ≤ length (now s) ⌝ }
+    ensures { λ d. ⌜ d ≡ draftOf (now (s .entry)) ⌝ }
+{
+    numbers_of(s, sets::number::get2(s, 15), 17)
 }
 
 // The numbers that the 23 bytes of edition 1 mean.
@@ -38,21 +46,7 @@ pub fn first_edition(s: &[u8]) -> Draft
     requires { ⌜ length (now s) ≡ firstEditionSize ⌝ }
     ensures { λ d. ⌜ d ≡ draftOf (withPurposes (now (s .entry))) ⌝ }
 {
-    Draft {
-        number: sets::number::get2(s, 0),
-        effect: sets::number::get1(s, 2),
-        subject_kind: sets::number::get1(s, 3),
-        subject: sets::number::get2(s, 4),
-        subject_origins: sets::number::get2(s, 6),
-        record: sets::number::get1(s, 8),
-        reach: sets::number::get1(s, 9),
-        origins: sets::number::get2(s, 10),
-        sensitivities: sets::number::get2(s, 12),
-        kinds: sets::number::get1(s, 14),
-        purposes: 0x07FF,
-        from: sets::number::get4(s, 15),
-        until: sets::number::get4(s, 19),
-    }
+    numbers_of(s, 0x07FF, 15)
 }
 
 // Whether the numbers keep the ranges of question 7.

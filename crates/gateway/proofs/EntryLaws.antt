@@ -1,15 +1,14 @@
 -- Laws of an entry: which entry a tag and a length write, and what it takes to perform it.
 use Prim.Native.Nat.{ℕ, min}
-use mathlib.Core.Path.{_≡_, refl, sym, ap, _∙_}
+use mathlib.Core.Path.{_≡_, refl, ap, _∙_}
 use mathlib.Core.Bool.{Bool, true, false}
-use mathlib.Core.Logic.{⊎-elim}
-use mathlib.Core.List.{List, [], _++_}
-use native.Mathlib.Omega.{arith}
-use borrow.Author.Tests.{eqb-true, leb-true, leb-false}
-use lib.ListN.{length, take, drop, drop-of-length-le}
-use lib.Dec.{eqb, leb}
+use mathlib.Core.List.{List, _++_}
+use borrow.Author.Tests.{eqb-true}
+use lib.ListN.{length, take, drop, length-take}
+use lib.Dec.{eqb}
 use Rattle.sets.specs.Quantifiers.{pick}
-use Rattle.sets.proofs.Quantifiers.{either-way, never-true}
+use Rattle.sets.proofs.Quantifiers.{never-true}
+use Rattle.sets.proofs.Lists.{take-held, drop-held}
 use Rattle.meaning.specs.Judgement.{meant}
 use Rattle.ledger.specs.declared.Ledger.{Ledger}
 use Rattle.ledger.specs.State.{view}
@@ -17,7 +16,6 @@ use Rattle.model.specs.Answer.{Answer}
 use Rattle.model.specs.Calls.{Call, calledBy}
 use Rattle.ledger.specs.Sound.{Sound}
 use Rattle.ledger.specs.Promises.{Gives}
-use Rattle.ledger.proofs.CallLaws.{take-held}
 use Rattle.card.specs.declared.WriteAnswer.{WriteAnswer}
 use Rattle.card.specs.Promises.{Fills}
 use Rattle.gateway.specs.declared.entry.EntryAnswer.{EntryAnswer}
@@ -70,24 +68,12 @@ module _ {l : Ledger} {before : List ℕ} {a : EntryAnswer} where
   keeps sound said same buffer =
       record { answer = said; ledger = same; unchanged = λ _. refl; buffer = buffer; sound = sound }
 
-drop-held : {A : Type 0} (l : List A) (n : ℕ) → drop (min n (length l)) l ≡ drop n l
-drop-held l n =
-    ⊎-elim
-    (λ e.
-    let h = leb-true n (length l) e in
-    let same : min n (length l) ≡ n = omega arith in
-    rw same)
-    (λ e.
-    let h = leb-false n (length l) e in
-    drop-of-length-le l {i = min n (length l)} (omega arith) ∙ sym (drop-of-length-le l {i = n} (omega arith)))
-    (either-way (leb n (length l)))
-
 -- what is written into the first n bytes, or into all where there are fewer, is written into what `take n` gives
 pub lent-part :
     {l : Ledger} {a : WriteAnswer} {after : List ℕ} (buffer : List ℕ) (n : ℕ) →
     Fills l (take (min n (length buffer)) buffer) a after → Lent l n buffer a (after ++ drop (min n (length buffer)) buffer)
 lent-part buffer n f =
     record {
-      answer = rw (take-held buffer n (length buffer) refl) at (f .answer);
-      buffer = rw (f .buffer, take-held buffer n (length buffer) refl, drop-held buffer n);
+      answer = rw (← length-take n buffer, take-held n buffer) at (f .answer);
+      buffer = rw (f .buffer, ← length-take n buffer, take-held n buffer, drop-held n buffer);
     }

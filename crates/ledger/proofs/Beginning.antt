@@ -2,16 +2,13 @@
 use Prim.Native.Nat.{ℕ, _^_, _<_}
 use mathlib.Core.Path.{_≡_, refl}
 use native.Mathlib.Omega.{arith}
-use borrow.Author.Tests.{lt-ltb}
-use Rattle.sets.specs.Quantifiers.{allBelow, allIn, pairwise}
 use Rattle.register.specs.Register.{emptyRegister}
-use Rattle.register.specs.Tree.{isTree}
 use Rattle.ledger.specs.declared.Ledger.{Ledger}
 use Rattle.ledger.specs.State.{view, emptyLedger}
 use Rattle.model.specs.Model.{emptyModel}
-use Rattle.model.specs.Sound.{SoundModel}
+use Rattle.model.proofs.Enrolled.{beginning-sound}
 use Rattle.ledger.specs.Sound.{Sound}
-use Rattle.ledger.specs.Enrolment.{beginning, Begins}
+use Rattle.ledger.specs.Enrolment.{Begins}
 
 pub empty-view : view emptyLedger ≡ emptyModel
 unfolding emptyLedger emptyRegister
@@ -30,49 +27,20 @@ begun patient clock =
       «token_count» = emptyLedger .«token_count»;
     }
 
-module _ (patient clock : ℕ) (p : patient < 2 ^ 16) (t : clock < 2 ^ 32) where
-  beginning-sound : SoundModel (beginning patient clock)
-  unfolding allBelow allIn pairwise isTree
-  beginning-sound =
-      record {
-        patient-in = lt-ltb patient (2 ^ 16) p;
-        clock-in = lt-ltb clock (2 ^ 32) t;
-        register =
-            record {
-              roles-few = omega arith;
-              roles-tree = refl;
-              records-few = omega arith;
-              records-fit = refl;
-              records-wide = refl;
-              roles-with-records = λ h. absurd (omega arith);
-            };
-        active-few = omega arith;
-        active-stand = refl;
-        active-differ = refl;
-        baseline-kept = refl;
-        no-clash = refl;
-        tokens-few = omega arith;
-        tokens-live = refl;
-        tokens-differ = refl;
-      }
-
-  pub begun-begins : Begins patient clock (begun patient clock)
-  unfolding emptyLedger emptyRegister
-  begun-begins =
-      record {
-        ledger = refl;
-        sound =
-            record {
-              roles-held = omega arith;
-              records-held = omega arith;
-              active-held = omega arith;
-              tokens-held = omega arith;
-              model = beginning-sound;
-            };
-      }
-
-pub empty-model-sound : SoundModel emptyModel
-empty-model-sound = beginning-sound 0 0 (omega arith) (omega arith)
+pub begun-begins : (patient clock : ℕ) → patient < 2 ^ 16 → clock < 2 ^ 32 → Begins patient clock (begun patient clock)
+unfolding emptyLedger emptyRegister
+begun-begins patient clock p t =
+    record {
+      ledger = refl;
+      sound =
+          record {
+            roles-held = omega arith;
+            records-held = omega arith;
+            active-held = omega arith;
+            tokens-held = omega arith;
+            model = beginning-sound patient clock p t;
+          };
+    }
 
 pub empty-sound : Sound emptyLedger
 unfolding emptyLedger

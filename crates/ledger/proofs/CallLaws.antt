@@ -1,17 +1,13 @@
--- Laws of what the calls promise: of a refusal, and of a change that keeps the register. Laws of the lists that an array and
--- a count hold.
-use Prim.Native.Nat.{ℕ, _-_, _≤_, min}
-use mathlib.Core.Path.{_≡_, refl, sym, ap, _∙_}
+-- Laws of what the calls promise: of a refusal, of a change that keeps the register, and of how many a walk drops.
+use Prim.Native.Nat.{ℕ, _-_, _≤_}
+use mathlib.Core.Path.{_≡_, refl, ap}
 use mathlib.Core.Bool.{Bool, not}
-use mathlib.Core.Logic.{⊎-elim}
 use mathlib.Core.List.{List}
 use native.Mathlib.Omega.{arith}
-use borrow.Author.Tests.{leb-true, leb-false}
 use lib.ListN.{length, take}
-use lib.Seq.{length-take-le, take-all}
-use lib.Dec.{leb}
+use lib.Seq.{length-take-le}
 use Rattle.sets.specs.Quantifiers.{keep, count}
-use Rattle.sets.proofs.Quantifiers.{either-way, both-ways}
+use Rattle.sets.proofs.Quantifiers.{both-ways}
 use Rattle.sets.proofs.Keep.{count-keep}
 use Rattle.ledger.specs.declared.Ledger.{Ledger}
 use Rattle.ledger.specs.State.{view}
@@ -44,19 +40,6 @@ module _ {l : Ledger} {o : Outcome} (sound : Sound l) where
               model = rw e at still;
             };
       }
-
--- a count past the end takes what is there
-pub take-held : {A : Type 0} (l : List A) (n k : ℕ) → length l ≡ k → take (min n k) l ≡ take n l
-take-held l n k long =
-    ⊎-elim
-    (λ e.
-    let h = leb-true n k e in
-    let same : min n k ≡ n = omega arith in
-    rw same)
-    (λ e.
-    let h = leb-false n k e in
-    take-all (min n k) l (omega arith) ∙ sym (take-all n l (omega arith)))
-    (either-way (leb n k))
 
 -- of n elements those that pass are as many as the k that do not are fewer
 pub dropped-count :

@@ -1,28 +1,26 @@
--- Laws of the steps by which a card's ledger comes about: when roles and a record fit, and what a register is sound with.
+-- Laws of the steps by which a card's ledger comes about: when roles and a record fit, and the ledger with another register.
 use Prim.Native.Nat.{ℕ, _<_, _≤_}
 use mathlib.Core.Path.{_≡_, refl, ap}
 use mathlib.Core.Bool.{Bool, true}
-use mathlib.Core.List.{List, [], _∷_, _++_}
-use native.Mathlib.Decide.{decLt}
+use mathlib.Core.List.{List}
 use native.Mathlib.Omega.{arith}
 use borrow.Author.Tests.{lt-ltb, ltb-true, le-leb, leb-true, eq-eqb, eqb-true}
-use lib.ListN.{length, length-append, List·getD-append}
-use lib.Seq.{length-take-le, getD-at}
-use Rattle.sets.specs.Quantifiers.{allIn, pairwise}
-use Rattle.sets.proofs.Quantifiers.{both-ways, never-true, and-left, and-right, every-below}
-use Rattle.sets.proofs.Lists.{all-snoc}
+use lib.ListN.{length}
+use lib.Seq.{length-take-le}
+use Rattle.sets.proofs.Quantifiers.{both-ways, never-true, and-left, and-right}
+use Rattle.sets.proofs.Lists.{none-in}
 use Rattle.register.specs.declared.Record.{Record}
 use Rattle.register.specs.declared.Register.{Register}
-use Rattle.register.specs.Register.{Contents, contents, noRecord}
+use Rattle.register.specs.Register.{Contents, contents}
 use Rattle.register.specs.Tree.{isTree}
-use Rattle.register.specs.Records.{recordAt}
-use Rattle.register.specs.Form.{recordFits, recordWidths}
+use Rattle.register.specs.Form.{recordFits}
 use Rattle.ledger.specs.declared.Ledger.{Ledger}
-use Rattle.model.specs.Model.{Model}
+use Rattle.model.specs.Model.{Model, withRegister}
 use Rattle.ledger.specs.State.{view}
-use Rattle.model.specs.Sound.{SoundRegister, SoundModel}
+use Rattle.model.specs.Sound.{SoundRegister}
+use Rattle.model.proofs.Enrolled.{sound-with}
 use Rattle.ledger.specs.Sound.{Sound}
-use Rattle.ledger.specs.Enrolment.{withRegister, Enrols, rolesFit, recordFit}
+use Rattle.ledger.specs.Enrolment.{Enrols, rolesFit, recordFit}
 
 pub record RolesFit (m : Model) (s : List ℕ) : Type 0 where
   pub few : length s ≤ 16
@@ -71,69 +69,6 @@ module _ (m : Model) (r : Record) where
   pub record-fit-make : RecordFit m r → recordFit m r ≡ true
   record-fit-make f =
       rw (eq-eqb _ _ (f .no-active), lt-ltb _ _ (f .a-role), lt-ltb _ _ (f .a-place), f .fits)
-
--- roles, where there are no records
-pub sound-roles :
-    (m : Model) (s : List ℕ) → SoundRegister (m .register) → RolesFit m s →
-    SoundRegister (record { roles = s; records = m .register .records })
-sound-roles m s h fit =
-    record {
-      roles-few = fit .few;
-      roles-tree = fit .tree;
-      records-few = h .records-few;
-      records-fit = h .records-fit;
-      records-wide = h .records-wide;
-      roles-with-records = λ someIn. absurd (omega arith);
-    }
-
--- one record more
-pub sound-record :
-    (m : Model) (r : Record) → SoundRegister (m .register) → RecordFit m r → recordWidths r ≡ true →
-    SoundRegister (record { roles = m .register .roles; records = m .register .records ++ (r ∷ []) })
-sound-record m r h fit wide =
-    let rs = m .register .records in
-    let more = length-append rs (r ∷ []) in
-    record {
-      roles-few = h .roles-few;
-      roles-tree = h .roles-tree;
-      records-few = omega arith;
-      records-fit =
-          every-below (length (rs ++ (r ∷ []))) .make _
-          (λ x below.
-          elim (decLt x (length rs)) [
-            | yes l ↦
-                rw (List·getD-append rs (r ∷ []) noRecord x l)
-                (every-below (length rs) .read (λ x. recordFits x (recordAt rs x)) (h .records-fit) x l)
-            | no l ↦
-                let last : length rs ≡ x = omega arith in
-                rw (getD-at rs r [] noRecord x last, ← last) (fit .fits)
-          ]);
-      records-wide = all-snoc recordWidths rs r (h .records-wide) wide;
-      roles-with-records = λ _. fit .a-role;
-    }
-
-no-elements : {A : Type 0} (l : List A) → length l ≡ 0 → l ≡ []
-no-elements [] e = refl
-no-elements (a ∷ l) e = absurd (omega arith)
-
--- a model without directives, with another register
-sound-with : (m : Model) (c : Contents) → SoundModel m → length (m .active) ≡ 0 → SoundRegister c → SoundModel (withRegister m c)
-unfolding allIn pairwise
-sound-with m c h none register =
-    let e = no-elements (m .active) none in
-    record {
-      patient-in = h .patient-in;
-      clock-in = h .clock-in;
-      register = register;
-      active-few = h .active-few;
-      active-stand = rw e;
-      active-differ = h .active-differ;
-      baseline-kept = rw e;
-      no-clash = rw e;
-      tokens-few = h .tokens-few;
-      tokens-live = h .tokens-live;
-      tokens-differ = h .tokens-differ;
-    }
 
 -- the lists of a ledger are as long as it counts
 pub record Counted (l : Ledger) : Type 0 where
@@ -186,6 +121,6 @@ module _ {l : Ledger} (sound : Sound l) where
               records-held = records;
               active-held = sound .active-held;
               tokens-held = sound .tokens-held;
-              model = sound-with (view l) (contents g) (sound .model) none (rw same register);
+              model = sound-with (view l) (contents g) (sound .model) (none-in _ none) (rw same register);
             };
       }

@@ -1,44 +1,23 @@
 -- How a card's ledger comes about, step by step: each step keeps a ledger sound. What stands past a count is free.
 use Prim.Native.Nat.{ℕ}
 use mathlib.Core.Path.{_≡_}
-use mathlib.Core.Bool.{Bool, false, _&&_, not}
+use mathlib.Core.Bool.{Bool, false, _&&_}
 use mathlib.Core.List.{List, [], _∷_, _++_}
 use lib.ListN.{length}
 use lib.Dec.{eqb, leb, ltb}
 use Rattle.sets.specs.Quantifiers.{pick}
 use Rattle.register.specs.declared.Record.{Record}
-use Rattle.register.specs.Register.{Contents}
 use Rattle.register.specs.Tree.{isTree}
 use Rattle.register.specs.Form.{recordFits}
 use Rattle.ledger.specs.declared.Ledger.{Ledger}
-use Rattle.model.specs.Model.{Model}
+use Rattle.model.specs.Model.{Model, beginning, withRegister}
 use Rattle.ledger.specs.State.{view}
 use Rattle.ledger.specs.Sound.{Sound}
 
--- patient and clock, and nothing else
-abbrev pub beginning : ℕ → ℕ → Model
-beginning patient clock =
-    record {
-      patient = patient;
-      clock = clock;
-      register = record { roles = []; records = [] };
-      active = [];
-      tokens = [];
-    }
-
+-- a ledger of a patient and a clock, and nothing else
 pub record Begins (patient clock : ℕ) (l : Ledger) : Type 0 where
   pub ledger : view l ≡ beginning patient clock
   pub sound : Sound l
-
-abbrev pub withRegister : Model → Contents → Model
-withRegister m c =
-    record {
-      patient = m .patient;
-      clock = m .clock;
-      register = c;
-      active = m .active;
-      tokens = m .tokens;
-    }
 
 -- A step that leaves the ledger alone where its test fails.
 pub record Enrols (l : Ledger) (fits : Bool) (m : Model) (after : Ledger) : Type 0 where

@@ -6,19 +6,16 @@ use crate::answer::CommitAnswer;
 use crate::answer::CommitResult;
 use crate::answer::DirectiveRefusal;
 use directive::Directive;
-use directive::Subject;
 use drafts::Draft;
-use register::Register;
 ghost use mathlib.Core.Path.{_≡_};
 ghost use mathlib.Core.List.{[], _∷_, _++_};
 ghost use Prim.Native.Nat.{_<_, _+_};
-ghost use Rattle.register.specs.Register.{contents};
 ghost use Rattle.meaning.specs.Found.{found};
 ghost use Rattle.ledger.specs.State.{view};
 ghost use Rattle.model.specs.Model.{withActive};
 ghost use Rattle.model.specs.Answer.{done};
 ghost use Rattle.ledger.specs.Answer.{admitAnswer};
-ghost use Rattle.model.specs.Questions.{firstNo, hasSubject, inRegister, hasMinutes, directiveQuestions};
+ghost use Rattle.model.specs.Questions.{firstNo, directiveQuestions};
 ghost use Rattle.ledger.specs.Promises.{Admits, Commits};
 
 // Questions 7 to 13 of the numbers of a draft, by search.

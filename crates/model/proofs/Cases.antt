@@ -1,20 +1,20 @@
 -- K1 to K12 hold. The search computes the whole table at once, and each step is tested for what makes the search exact.
 use mathlib.Core.Path.{_≡_, refl, ap₂}
 use mathlib.Core.Bool.{Bool, true, false, _&&_, Bool·beq}
-use mathlib.Core.List.{List, [], _∷_, map, List·Memᴰ}
+use mathlib.Core.List.{List, [], _∷_, map}
 use borrow.Author.Tests.{ltb-true, lt-ltb, eqb-true}
 use lib.ListN.{length}
 use lib.Dec.{eqb, ltb}
 use Rattle.sets.specs.Quantifiers.{implies, allBelow, someBelow, countBelow, allOf, someOf, allIn, someIn, keep, count}
 use Rattle.sets.specs.Bits.{setOf}
 use Rattle.sets.specs.Numbers.{numberFrom, bytes, isBytes}
-use Rattle.sets.proofs.Quantifiers.{both-ways, and-both, and-left, and-right, implies-at, every-list}
+use Rattle.sets.proofs.Quantifiers.{both-ways, beq-true, and-both, and-left, and-right, implies-at, every-list}
 use Rattle.register.specs.Tree.{aboveBy}
 use Rattle.register.specs.Roles.{covers}
 use Rattle.register.specs.Records.{reaches}
 use Rattle.directive.specs.Selection.{passesFilters, selects}
 use Rattle.directive.specs.Matching.{matches}
-use Rattle.drafts.specs.Form.{draftOf, keepsRanges, directiveOf, directiveBytes, wellFormed}
+use Rattle.drafts.specs.Form.{numbersOf, draftOf, keepsRanges, directiveOf, directiveBytes, wellFormed}
 use Rattle.meaning.specs.Requests.{persons}
 use Rattle.meaning.specs.Search.{overlap, conflictFound, breaksBaselineFound, admits, redundantFound}
 use Rattle.meaning.specs.Judgement.{meant}
@@ -82,12 +82,6 @@ module _ {A : Type 0} (test : A → A → Bool) where
   same-list f (a ∷ s) (b ∷ t) e =
       let (first, rest) = and-both (test a b) _ e in ap₂ _∷_ (f a b first) (same-list f s t rest)
 
-beq-true : (a b : Bool) → Bool·beq a b ≡ true → a ≡ b
-beq-true true true e = refl
-beq-true true false e = both-ways e refl
-beq-true false true e = both-ways e refl
-beq-true false false e = refl
-
 -- each step gives its line
 runs : Model → List Step → Bool
 runs m [] = true
@@ -119,7 +113,7 @@ holds (selection s xs) e = same-list Bool·beq beq-true _ xs e
 all-check : allIn checks cases ≡ true
 unfolding checks runs sameList written searchable cases sample sampleRecords drafting
     allBelow someBelow countBelow allOf someOf allIn someIn keep count setOf numberFrom bytes
-    aboveBy covers reaches passesFilters selects matches draftOf directiveOf directiveBytes keepsRanges wellFormed
+    aboveBy covers reaches passesFilters selects matches numbersOf draftOf directiveOf directiveBytes keepsRanges wellFormed
     overlap conflictFound breaksBaselineFound admits redundantFound
     scope disclosed briefWord briefCount lowest decision firstNo directiveQuestions draftQuestions
     committedBy advanced issued decided briefed

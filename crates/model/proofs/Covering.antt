@@ -10,7 +10,7 @@ use lib.ListN.{length, length-append}
 use lib.Dec.{eqb}
 use Rattle.sets.specs.Quantifiers.{allIn, someIn, pairwise}
 use Rattle.sets.specs.Numbers.{isBytes}
-use Rattle.sets.proofs.Quantifiers.{either-way, both-ways, and-both, and-left, and-right, every-list, some-list}
+use Rattle.sets.proofs.Quantifiers.{either-way, beq-true, and-both, and-left, and-right, every-list, some-list}
 use Rattle.sets.proofs.Keep.{keep-shorter}
 use Rattle.sets.proofs.Lists.{some-snoc}
 use Rattle.register.specs.Register.{Contents}
@@ -47,12 +47,6 @@ or-absorbs : (a b : Bool) → (b ≡ true → a ≡ true) → a || b ≡ a
 or-absorbs true b f = refl
 or-absorbs false true f = sym (f refl)
 or-absorbs false false f = refl
-
-beq-true : (a b : Bool) → Bool·beq a b ≡ true → a ≡ b
-beq-true true true e = refl
-beq-true true false e = both-ways e refl
-beq-true false true e = both-ways e refl
-beq-true false false e = refl
 
 pub covered-by-read :
     (m : Model) (b : Bool) (q : Request) → coveredBy m b q ≡ true →

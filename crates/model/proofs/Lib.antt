@@ -1,6 +1,7 @@
 pub mod Questions
 pub mod Lowest
 pub mod Agree
+pub mod Enrolled
 pub mod Soundness
 pub mod Balance
 pub mod Reordering

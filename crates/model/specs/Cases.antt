@@ -11,7 +11,7 @@ use Rattle.directive.specs.Selection.{selects}
 use Rattle.drafts.specs.Form.{everyPurpose, directiveBytes}
 use Rattle.meaning.specs.Judgement.{Judgement, meant}
 use Rattle.model.specs.Model.{Model}
-use Rattle.model.specs.Answer.{Answer, answerLine}
+use Rattle.model.specs.Answer.{answerLine}
 use Rattle.model.specs.Questions.{Outcome}
 use Rattle.model.specs.Calls.{Call, commit, advance, issue, calledBy, decided, briefed, drafted}
 

@@ -13,6 +13,31 @@ pub record Model : Type 0 where
   pub active : List Directive
   pub tokens : List Token
 
+-- patient and clock, and nothing else
+abbrev pub beginning : ℕ → ℕ → Model
+beginning patient clock =
+    record {
+      patient = patient;
+      clock = clock;
+      register = record { roles = []; records = [] };
+      active = [];
+      tokens = [];
+    }
+
+-- "The empty ledger has patient 0, clock 0 and nothing else"
+abbrev pub emptyModel : Model
+emptyModel = beginning 0 0
+
+abbrev pub withRegister : Model → Contents → Model
+withRegister m c =
+    record {
+      patient = m .patient;
+      clock = m .clock;
+      register = c;
+      active = m .active;
+      tokens = m .tokens;
+    }
+
 abbrev pub withActive : Model → List Directive → Model
 withActive m ds =
     record {
@@ -31,14 +56,4 @@ withTokens m ts =
       register = m .register;
       active = m .active;
       tokens = ts;
-    }
-
-abbrev pub emptyModel : Model
-emptyModel =
-    record {
-      patient = 0;
-      clock = 0;
-      register = record { roles = []; records = [] };
-      active = [];
-      tokens = [];
     }

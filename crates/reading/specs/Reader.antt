@@ -23,7 +23,8 @@ progress r = record { edition = r .edition; model = view (r .ledger) }
 abbrev pub placedQuestions : Progress → Tag → List ℕ → List Question
 placedQuestions p t v = ask 2 (hasPlace p t (length v)) ∷ valueQuestions meant p t v
 
--- The answer is that of the field's questions; where they are passed, the reader has read the field too. The ledger stays sound.
+-- The answer is that of the field's questions; where they are passed, the reader has read the field too. The ledger stays sound;
+-- after a refusal nothing else is said of the reader.
 pub record Took (p : Progress) (t : Tag) (v : List ℕ) (r : Step) : Type 0 where
   pub answer : readAnswer (r .answer) ≡ firstNo (placedQuestions p t v) (done [])
   pub reader : accepted (readAnswer (r .answer)) ≡ true → progress (r .reader) ≡ withField p t v

@@ -1,6 +1,6 @@
--- Laws of tests over lists: of the parts of a list, of its places, of one element more, of negation, of any two elements, and
--- of two tests that agree on its elements.
-use Prim.Native.Nat.{ℕ, suc, _<_}
+-- Laws of a list of no elements and of a count past a list's end. Laws of tests over lists: of the parts of a list, of its
+-- places, of one element more, of negation, of any two elements, and of two tests that agree on its elements.
+use Prim.Native.Nat.{ℕ, zero, suc, _<_}
 use mathlib.Core.Path.{_≡_, refl, ap, sym, _∙_}
 use mathlib.Core.Bool.{Bool, true, false, _&&_, _||_, not, and-true, and-assoc, and-comm, or-false, or-assoc}
 use mathlib.Core.Logic.{_⊎_, inl, inr}
@@ -10,6 +10,22 @@ use borrow.Author.Tests.{not-true}
 use lib.ListN.{length, getD, take, drop, take-append-drop}
 use Rattle.sets.specs.Quantifiers.{allIn, someIn, keep, pairwise}
 use Rattle.sets.proofs.Quantifiers.{and-both, every-list}
+
+module _ {A : Type 0} where
+  pub none-in : (l : List A) → length l ≡ 0 → l ≡ []
+  none-in [] e = refl
+  none-in (a ∷ l) e = absurd (omega arith)
+
+  -- a count past the end takes what is there, and leaves nothing
+  pub take-held : (n : ℕ) (l : List A) → take (length (take n l)) l ≡ take n l
+  take-held zero l = refl
+  take-held (suc n) [] = refl
+  take-held (suc n) (x ∷ l) = ap (λ r. x ∷ r) (take-held n l)
+
+  pub drop-held : (n : ℕ) (l : List A) → drop (length (take n l)) l ≡ drop n l
+  drop-held zero l = refl
+  drop-held (suc n) [] = refl
+  drop-held (suc n) (x ∷ l) = drop-held n l
 
 module _ {A : Type 0} (p : A → Bool) where
   pub all-append : (s t : List A) → allIn p (s ++ t) ≡ allIn p s && allIn p t

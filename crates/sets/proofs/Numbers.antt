@@ -1,7 +1,7 @@
 -- Laws of numbers as bytes, high byte first: the bound of a number of n bytes, the two round trips, and numbers read from a part.
 use Prim.Native.Nat.{ℕ, zero, suc, _+_, _-_, _*_, _/_, _%_, _^_, _<_, _≤_}
 use mathlib.Core.Path.{_≡_, refl, sym, ap, _∙_}
-use mathlib.Core.Bool.{Bool, true, _&&_, and-assoc}
+use mathlib.Core.Bool.{true}
 use mathlib.Core.List.{List, [], _∷_, _++_, append-nil}
 use native.Mathlib.Nat.{add-zero, add-suc, suc-add, zero-add, mul-assoc, pow-suc, pow-succ', div-add-mod', mul-le-mul-right, lt-of-lt-of-le, min-le-left, pow-le-pow-right, add-sub-of-le}
 use native.Mathlib.Numerals.{add-one}
@@ -9,7 +9,7 @@ use native.Mathlib.Omega.{arith}
 use borrow.Author.Tests.{ltb-true, lt-ltb}
 use lib.Dec.{ltb, lit<}
 use lib.Arith.{digits-div, digits-mod}
-use lib.ListN.{length, getD, set, take, drop, length-append, length-take, length-drop, take-append-drop}
+use lib.ListN.{length, getD, set, take, drop, length-append, length-take, length-drop}
 use lib.Seq.{sets, drop-cons, append-snoc, take-append-le, drop-append-le, drop-append-add}
 use Rattle.sets.specs.Quantifiers.{allIn}
 use Rattle.sets.specs.Numbers.{numberFrom, number, numberAt, bytes, isBytes}

@@ -1,7 +1,7 @@
 -- Laws of tests and of quantifiers. A quantifier ranges over the values of which `In` holds.
 use Prim.Native.Nat.{ℕ, zero, suc, _<_}
 use mathlib.Core.Path.{_≡_, refl, sym, ap, _∙_}
-use mathlib.Core.Bool.{Bool, true, false, _&&_, _||_, not, true≢false}
+use mathlib.Core.Bool.{Bool, true, false, _&&_, _||_, not, Bool·beq, true≢false}
 use mathlib.Core.Logic.{_⊎_, inl, inr, ⊎-elim}
 use mathlib.Core.List.{List, [], _∷_, List·Memᴰ, List·Memᴰ·head, List·Memᴰ·tail}
 use native.Mathlib.Omega.{arith}
@@ -26,6 +26,12 @@ both-ways e f = absurd (true≢false (sym e ∙ f))
 pub never-true : (b : Bool) → (b ≡ true → ⊥) → b ≡ false
 never-true true f = absurd (f refl)
 never-true false f = refl
+
+pub beq-true : (a b : Bool) → Bool·beq a b ≡ true → a ≡ b
+beq-true true true e = refl
+beq-true true false e = both-ways e refl
+beq-true false true e = both-ways e refl
+beq-true false false e = refl
 
 -- where b says less than a
 pub not-less : (a b : Bool) → (b ≡ true → a ≡ true) → not a ≡ true → not b ≡ true

@@ -1,6 +1,6 @@
 -- Sets of numbers below 128, as two 64-bit words: "bit i for record i (word i / 64, bit i mod 64)".
 use Prim.Native.Nat.{ℕ, _+_, _-_, _*_}
-use mathlib.Core.Bool.{Bool, false, _&&_}
+use mathlib.Core.Bool.{Bool, _&&_}
 use lib.Dec.{ltb}
 use Rattle.sets.specs.Quantifiers.{pick}
 use Rattle.sets.specs.Bits.{bit, setOf}

@@ -1,14 +1,14 @@
 -- Laws of writing a card field by field: what is written after what stands before it.
-use Prim.Native.Nat.{ℕ, zero, suc, _+_, _*_, _<_, _≤_}
-use mathlib.Core.Path.{_≡_, refl, ap, _∙_}
+use Prim.Native.Nat.{ℕ, _+_, _*_, _<_, _≤_}
+use mathlib.Core.Path.{_≡_, refl, _∙_}
 use mathlib.Core.Bool.{true}
-use mathlib.Core.List.{List, [], _∷_}
-use native.Mathlib.Nat.{min-le-right, zero-add}
+use mathlib.Core.List.{List, _∷_}
+use native.Mathlib.Nat.{zero-add}
 use native.Mathlib.Numerals.{add-one}
 use native.Mathlib.Omega.{arith}
 use borrow.Author.Tests.{eq-eqb, ne-eqb, le-leb, lt-leb}
 use lib.Dec.{leb}
-use lib.ListN.{length, take, getD, length-take}
+use lib.ListN.{length, take, getD}
 use lib.Seq.{sets, sets-eq, length-take-le, length-sets, take-suc}
 use Rattle.sets.specs.Quantifiers.{allIn}
 use Rattle.sets.specs.Numbers.{bytes}
@@ -70,15 +70,6 @@ pub filled-all :
 filled-all {n} {k} p h =
     let e : k ≡ n = omega (arith, p .up-to) in
     rw e at (p .stored)
-
--- an array that holds a list: at most as long, and as many elements of it are the list
-pub take-most : {A : Type 0} (n : ℕ) (l : List A) → length (take n l) ≤ length l
-take-most n l = rw length-take (min-le-right n (length l))
-
-pub take-held : {A : Type 0} (n : ℕ) (l : List A) → take (length (take n l)) l ≡ take n l
-take-held zero l = refl
-take-held (suc n) [] = refl
-take-held (suc n) (x ∷ l) = ap (λ r. x ∷ r) (take-held n l)
 
 -- head, roles, records and directives, one after another, are the card
 module _ (m : Model) where

@@ -1,5 +1,5 @@
 -- `line::numbered`: as many numbers as the count, which the array holds.
-use mathlib.Core.Path.{_≡_, refl}
+use mathlib.Core.Path.{refl}
 use native.Mathlib.Omega.{arith}
 use lib.ListN.{length-take}
 use Rattle.gateway.proofs.line.numbered.Statement.{statement}

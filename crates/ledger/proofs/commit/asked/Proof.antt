@@ -6,6 +6,7 @@ use borrow.Author.Needs.{needs}
 use borrow.Author.Tests.{lt-ltb, le-ltb}
 use lib.ListN.{length, length-take, take}
 use Rattle.sets.specs.Quantifiers.{keep}
+use Rattle.sets.proofs.Lists.{take-held}
 use Rattle.register.proofs.ArrayLaws.{long-mapped}
 use Rattle.register.proofs.CallLaws.{failed, passed}
 use Rattle.directive.specs.declared.Directive.{Directive}
@@ -18,7 +19,6 @@ use Rattle.meaning.specs.Search.{conflictFound}
 use Rattle.ledger.specs.declared.Ledger.{Ledger}
 use Rattle.ledger.specs.State.{view}
 use Rattle.model.specs.Questions.{firstNo, inRegister, hasMinutes, isActive, directiveQuestions}
-use Rattle.ledger.proofs.CallLaws.{take-held}
 use Rattle.ledger.proofs.commit.asked.Statement.{statement}
 use Rattle.ledger.proofs.commit.asked.Tie as tie
 
@@ -97,14 +97,15 @@ past c =
     let tested = c .before .before in
     let meant = tested .before .before .before .before .before in
     let l = meant .before .before .before .args .l in
-    let long = array (meant .before .before .before) in
+    let many : c .held .result ≡ length (view l .active) =
+    rw (length-take, array (meant .before .before .before)) (c .held .ensures) in
     record {
       written = meant .directive-of .ensures;
       in-ranges = ranges (meant .before);
       in-it = there (tested .before .before);
       minutes = passed (rw (meant .directive-of .ensures) at (tested .before .has-minutes .ensures)) (tested .if3 .left);
-      all = rw (c .held .ensures) (take-held (l .active) (l .«active_count») 32 long);
-      many = rw (length-take, long) (c .held .ensures);
+      all = rw many (take-held (l .«active_count») (l .active));
+      many = many;
     }
 
 returns-4 : tie.Need-returns-4

@@ -14,7 +14,8 @@ use Rattle.register.proofs.ArrayLaws.{long-mapped}
 use Rattle.register.proofs.CallLaws.{failed, passed}
 use Rattle.ledger.specs.State.{view}
 use Rattle.ledger.specs.Sound.{Sound}
-use Rattle.ledger.proofs.EnrolLaws.{RecordFit, record-fit-make, sound-record, Counted, sound-counted, record-left, enrolled}
+use Rattle.model.proofs.Enrolled.{sound-record}
+use Rattle.ledger.proofs.EnrolLaws.{RecordFit, record-fit-make, Counted, sound-counted, record-left, enrolled}
 use Rattle.ledger.proofs.enrolment.enrol_record.Statement.{statement}
 use Rattle.ledger.proofs.enrolment.enrol_record.Tie as tie
 
@@ -86,7 +87,7 @@ returns-5 c sound =
     (record-fit-make (view l) r fit)
     (fit .no-active)
     (rw (add-one n, take-suc-set (l .register .records) n r (omega (arith, count .record-places, place .if3 .left))))
-    (sound-record (view l) r (sound .model .register) fit (widths start))
+    (sound-record (view l .register) (sound .model .register) r (fit .a-role) (fit .a-place) (fit .fits) (widths start))
     (sound .roles-held)
     (omega (arith, place .if3 .left))
 

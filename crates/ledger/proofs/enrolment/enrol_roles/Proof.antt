@@ -13,7 +13,8 @@ use Rattle.register.proofs.ArrayLaws.{long-mapped}
 use Rattle.register.proofs.CallLaws.{failed, passed}
 use Rattle.ledger.specs.State.{view}
 use Rattle.ledger.specs.Sound.{Sound}
-use Rattle.ledger.proofs.EnrolLaws.{RolesFit, roles-fit-make, sound-roles, Counted, sound-counted, roles-left, enrolled}
+use Rattle.model.proofs.Enrolled.{sound-roles}
+use Rattle.ledger.proofs.EnrolLaws.{RolesFit, roles-fit-make, Counted, sound-counted, roles-left, enrolled}
 use Rattle.ledger.proofs.enrolment.enrol_roles.Statement.{statement}
 use Rattle.ledger.proofs.enrolment.enrol_roles.Tie as tie
 
@@ -120,7 +121,7 @@ returns-6 c sound =
     (roles-fit-make (view l) s fit)
     (fit .no-active)
     (rw (copied-all (c .before .loop .inv) (c .loop-test .left)))
-    (sound-roles (view l) s (sound .model .register) fit)
+    (sound-roles (view l .register) (sound .model .register) s (fit .few) (fit .tree) (λ h. absurd (omega (arith, fit .no-records))))
     (fit .few)
     (sound .records-held)
 

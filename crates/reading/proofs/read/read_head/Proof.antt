@@ -6,7 +6,7 @@ use borrow.Author.Tests.{eq-eqb, ne-eqb, lt-leb, le-leb}
 use lib.ListN.{length}
 use Rattle.sets.specs.Numbers.{numberAt}
 use Rattle.model.specs.Questions.{firstNo}
-use Rattle.ledger.specs.Enrolment.{beginning}
+use Rattle.model.specs.Model.{beginning}
 use Rattle.card.specs.declared.ReadAnswer.the-variants.{Misplaced, OutOfRange}
 use Rattle.card.specs.declared.form.Head.{Head}
 use Rattle.card.specs.Grammar.{head}

@@ -3,11 +3,12 @@ use Prim.Native.Nat.{_≤_}
 use mathlib.Core.Path.{_≡_, sym, _∙_}
 use native.Mathlib.Omega.{arith}
 use borrow.Author.Needs.{needs}
-use lib.ListN.{length}
+use lib.ListN.{length, length-take}
+use Rattle.sets.proofs.Lists.{take-held}
 use Rattle.register.proofs.ArrayLaws.{long-mapped}
 use Rattle.ledger.specs.declared.Ledger.{Ledger}
 use Rattle.ledger.specs.State.{view}
-use Rattle.writing.proofs.WriteLaws.{take-most, take-held, card-size, put-card, fills-none, fills-short, fills-written}
+use Rattle.writing.proofs.WriteLaws.{card-size, put-card, fills-none, fills-short, fills-written}
 use Rattle.writing.proofs.write.write.Statement.{statement}
 use Rattle.writing.proofs.write.write.Tie as tie
 
@@ -24,9 +25,9 @@ few c =
     let items : length (l .register .records) ≡ 128 = search (needs, long-mapped) in
     let places : length (l .active) ≡ 32 = search (needs, long-mapped) in
     record {
-      roles = omega (arith, take-most (l .register .«role_count») (l .register .roles));
-      records = omega (arith, take-most (l .register .«record_count») (l .register .records));
-      active = omega (arith, take-most (l .«active_count») (l .active));
+      roles = omega (arith, length-take (l .register .«role_count») (l .register .roles));
+      records = omega (arith, length-take (l .register .«record_count») (l .register .records));
+      active = omega (arith, length-take (l .«active_count») (l .active));
     }
 
 role-count-requires : tie.Need-role-count-requires
