@@ -23,6 +23,11 @@ stored f ds ws n d w h k held e i l =
       | no q ↦ rw (getD-set-other ws n i w 0 q, getD-set-other ds n i d noDirective q) (held i (omega (arith, q)))
     ]
 
+pub no-selections :
+    {rs : List Record} {ds : List Directive} {n : ℕ} {low high : List ℕ} → n ≤ 0 → SelectionsOf rs ds n low high
+no-selections h =
+    record { low-words = λ i l. absurd (omega arith); high-words = λ i l. absurd (omega arith) }
+
 module _ {rs : List Record} {ds : List Directive} {n : ℕ} {low high : List ℕ} (held : SelectionsOf rs ds n low high) where
   pub selections-fewer : (m : ℕ) → m ≤ n → SelectionsOf rs ds m low high
   selections-fewer m h =

@@ -3,6 +3,7 @@ use Prim.Native.Nat.{ℕ, _^_, _<_}
 use mathlib.Core.Path.{_≡_, refl}
 use native.Mathlib.Omega.{arith}
 use Rattle.register.specs.Register.{emptyRegister}
+use Rattle.directive.proofs.StoreLaws.{no-selections}
 use Rattle.ledger.specs.declared.Ledger.{Ledger}
 use Rattle.ledger.specs.State.{view, emptyLedger}
 use Rattle.model.specs.Model.{emptyModel}
@@ -22,6 +23,8 @@ begun patient clock =
       clock = clock;
       register = emptyLedger .register;
       active = emptyLedger .active;
+      low = emptyLedger .low;
+      high = emptyLedger .high;
       «active_count» = emptyLedger .«active_count»;
       tokens = emptyLedger .tokens;
       «token_count» = emptyLedger .«token_count»;
@@ -38,6 +41,7 @@ begun-begins patient clock p t =
             records-held = omega arith;
             active-held = omega arith;
             tokens-held = omega arith;
+            selected = no-selections (omega arith);
             model = beginning-sound patient clock p t;
           };
     }

@@ -14,19 +14,19 @@ use Rattle.ledger.specs.State.{view}
 use Rattle.model.specs.Answer.{Answer, done}
 use Rattle.model.specs.Questions.{Outcome, activePlaces, tokenPlaces}
 use Rattle.model.specs.Sound.{SoundModel}
-use Rattle.ledger.specs.Sound.{Sound}
+use Rattle.ledger.specs.Sound.{Selected, Sound}
 use Rattle.ledger.specs.Promises.{Gives}
 
 module _ {l : Ledger} {o : Outcome} (sound : Sound l) where
   pub refuses : {a : Answer} → o ≡ record { answer = a; model = view l } → Gives l o a l
   refuses e = record { answer = rw e; ledger = rw e; unchanged = λ _. refl; sound = sound }
 
-  -- a ledger with the register of l, and with counts within its arrays
+  -- a ledger with the register of l, with counts within its arrays, and with the words of its directives
   pub changes :
       {vs : List ℕ} {after : Ledger} → o ≡ record { answer = done vs; model = view after } → SoundModel (o .model) →
       after .register ≡ l .register → after .«active_count» ≤ activePlaces → after .«token_count» ≤ tokenPlaces →
-      Gives l o (done vs) after
-  changes e still kept active tokens =
+      Selected after → Gives l o (done vs) after
+  changes e still kept active tokens words =
       record {
         answer = rw e;
         ledger = rw e;
@@ -37,6 +37,7 @@ module _ {l : Ledger} {o : Outcome} (sound : Sound l) where
               records-held = rw kept (sound .records-held);
               active-held = active;
               tokens-held = tokens;
+              selected = words;
               model = rw e at still;
             };
       }

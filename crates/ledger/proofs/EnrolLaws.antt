@@ -8,12 +8,12 @@ use borrow.Author.Tests.{lt-ltb, ltb-true, le-leb, leb-true, eq-eqb, eqb-true}
 use lib.ListN.{length}
 use lib.Seq.{length-take-le}
 use Rattle.sets.proofs.Quantifiers.{both-ways, never-true, and-left, and-right}
-use Rattle.sets.proofs.Lists.{none-in}
 use Rattle.register.specs.declared.Record.{Record}
 use Rattle.register.specs.declared.Register.{Register}
 use Rattle.register.specs.Register.{Contents, contents}
 use Rattle.register.specs.Tree.{isTree}
 use Rattle.register.specs.Form.{recordFits}
+use Rattle.directive.proofs.StoreLaws.{no-selections}
 use Rattle.ledger.specs.declared.Ledger.{Ledger}
 use Rattle.model.specs.Model.{Model, withRegister}
 use Rattle.ledger.specs.State.{view}
@@ -97,9 +97,9 @@ module _ {l : Ledger} (sound : Sound l) where
   pub record-left : (r : Record) {m : Model} → (RecordFit (view l) r → ⊥) → Enrols l (recordFit (view l) r) m l
   record-left r never = left-alone (λ t. never (record-fit-read (view l) r t))
 
-  -- the ledger with another register
+  -- the ledger with another register, where there are no directives yet
   pub enrolled :
-      {fits : Bool} {c : Contents} (g : Register) → fits ≡ true → length (view l .active) ≡ 0 → contents g ≡ c →
+      {fits : Bool} {c : Contents} (g : Register) → fits ≡ true → l .«active_count» ≡ 0 → contents g ≡ c →
       SoundRegister c → g .«role_count» ≤ 16 → g .«record_count» ≤ 128 →
       Enrols l fits (withRegister (view l) c)
       (record {
@@ -107,6 +107,8 @@ module _ {l : Ledger} (sound : Sound l) where
         clock = l .clock;
         register = g;
         active = l .active;
+        low = l .low;
+        high = l .high;
         «active_count» = l .«active_count»;
         tokens = l .tokens;
         «token_count» = l .«token_count»;
@@ -121,6 +123,7 @@ module _ {l : Ledger} (sound : Sound l) where
               records-held = records;
               active-held = sound .active-held;
               tokens-held = sound .tokens-held;
-              model = sound-with (view l) (contents g) (sound .model) (none-in _ none) (rw same register);
+              selected = no-selections (omega (arith, none));
+              model = sound-with (view l) (contents g) (sound .model) (rw none) (rw same register);
             };
       }

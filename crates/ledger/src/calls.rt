@@ -23,10 +23,16 @@ pub fn revoke(l: Ledger, number: u16) -> RevokeResult
             ledger: l,
         };
     }
-    let rest = lists::walks::without_number(active, n, number);
+    let low = l.low;
+    let high = l.high;
+    let rest = lists::walks::without_number(active, low, high, n, number);
     let mut next = l;
     let items = rest.items;
+    let items_low = rest.low;
+    let items_high = rest.high;
     next.active = items;
+    next.low = items_low;
+    next.high = items_high;
     next.active_count = rest.count;
     RevokeResult {
         answer: RevokeAnswer::Revoked,
@@ -46,14 +52,20 @@ pub fn advance(l: Ledger, minute: u32) -> AdvanceResult
     }
     let n = lists::walks::held(l.active_count, 32);
     let active = l.active;
-    let directives = lists::walks::unexpired(active, n, minute);
+    let low = l.low;
+    let high = l.high;
+    let directives = lists::walks::unexpired(active, low, high, n, minute);
     let m = lists::walks::held(l.token_count, 4);
     let held = l.tokens;
     let tokens = lists::walks::live(held, m, minute);
     let mut next = l;
     next.clock = minute;
     let kept = directives.items;
+    let kept_low = directives.low;
+    let kept_high = directives.high;
     next.active = kept;
+    next.low = kept_low;
+    next.high = kept_high;
     next.active_count = directives.count;
     let left = tokens.items;
     next.tokens = left;

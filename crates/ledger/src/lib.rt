@@ -20,6 +20,9 @@ pub struct Ledger {
     clock: u32,
     register: Register,
     active: [Directive; 32],
+    // the words of the records that each active directive selects
+    low: [u64; 32],
+    high: [u64; 32],
     active_count: usize,
     tokens: [Token; 4],
     token_count: usize,
@@ -44,6 +47,7 @@ pub fn empty() -> Ledger
     let register = register::empty_register();
     let d = directive::no_directive();
     let active = [d; 32];
+    let none = [0u64; 32];
     let t = no_token();
     let tokens = [t; 4];
     Ledger {
@@ -51,6 +55,8 @@ pub fn empty() -> Ledger
         clock: 0,
         register: register,
         active: active,
+        low: none,
+        high: none,
         active_count: 0,
         tokens: tokens,
         token_count: 0,

@@ -31,11 +31,11 @@ held-requires-2 c κs = search needs
 live-requires : tie.Need-live-requires
 live-requires c κs = search needs
 
-sub-t14 : tie.Need-sub-t14
-sub-t14 c = search needs
+sub-t18 : tie.Need-sub-t18
+sub-t18 c = search needs
 
-sub-t15 : tie.Need-sub-t15
-sub-t15 c = search needs
+sub-t19 : tie.Need-sub-t19
+sub-t19 c = search needs
 
 arrays : (c : tie.Start) → (length (c .args .l .active) ≡ 32) × (length (c .args .l .tokens) ≡ 4)
 arrays c = (search (needs, long-mapped), search (needs, long-mapped))
@@ -49,9 +49,9 @@ tokens-array c = search (needs, long-mapped)
 returns-2 : tie.Need-returns-2
 unfolding advanced firstNo allIn
 returns-2 c sound =
-    let to-live = c .before .before .before .before in
+    let to-live = c .before .before .before .before .before .before in
     let to-unexpired = to-live .before .before .before in
-    let to-held = to-unexpired .before .before in
+    let to-held = to-unexpired .before .before .before .before in
     let start = to-held .before .before .before in
     let l = start .args .l in
     let t = start .args .minute in
@@ -65,12 +65,12 @@ returns-2 c sound =
     changes sound
     (rw (
       le-leb (l .clock) t (to-held .before .if1 .left),
-      directives .ensures .1,
+      directives .ensures .0 .1,
       tokens .ensures .1,
       n,
       m,
       dropped-count (λ d. leb (d .until) t) (l .active) (directives .result .items) (l .«active_count»)
-          (directives .result .count) (omega arith) (omega arith) (rw n at (directives .ensures .1)),
+          (directives .result .count) (omega arith) (omega arith) (rw n at (directives .ensures .0 .1)),
       dropped-count (λ k. leb (k .until) t) (l .tokens) (tokens .result .items) (l .«token_count»)
           (tokens .result .count) (omega arith) (omega arith) (rw m at (tokens .ensures .1)),
     ))
@@ -78,6 +78,7 @@ returns-2 c sound =
     refl
     (omega arith)
     (omega arith)
+    (directives .ensures .1 _ (rw n (sound .selected)))
 
 pub advance-spec : {M : Type 1} → statement M
 advance-spec =
@@ -88,6 +89,6 @@ advance-spec =
     unexpired-requires
     held-requires-2
     live-requires
-    sub-t14
-    sub-t15
+    sub-t18
+    sub-t19
     returns-2)

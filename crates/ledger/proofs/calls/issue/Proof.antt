@@ -140,6 +140,7 @@ returns-7 c sound =
     refl
     (sound .active-held)
     (omega arith)
+    (sound .selected)
 
 pub issue-spec : {M : Type 1} → statement M
 issue-spec =

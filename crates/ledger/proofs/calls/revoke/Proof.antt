@@ -30,16 +30,19 @@ without-number-requires c κs = search needs
 returns-2 : tie.Need-returns-2
 unfolding revoked firstNo allIn
 returns-2 c sound =
-    let start = c .before .before .before .before .before .before in
+    let rest = c .before .before .before in
+    let tested = rest .before .before .before in
+    let start = tested .before .before .before .before in
     let l = start .args .l in
-    let n : c .before .before .before .before .before .held .result ≡ l .«active_count» = omega arith in
-    let is = sym (rw n at (c .before .before .before .is-active .ensures)) ∙ not-false _ (c .before .before .if1 .left) in
+    let n : tested .before .before .before .held .result ≡ l .«active_count» = omega arith in
+    let is = sym (rw n at (tested .before .is-active .ensures)) ∙ not-false _ (tested .if1 .left) in
     changes sound
-    (rw (is, c .before .without-number .ensures .1, n))
+    (rw (is, rest .without-number .ensures .0 .1, n))
     (sound-revoke (view l) (sound .model) (start .args .number))
     refl
     (omega arith)
     (sound .tokens-held)
+    (rest .without-number .ensures .1 _ (rw n (sound .selected)))
 
 pub revoke-spec : {M : Type 1} → statement M
 revoke-spec =

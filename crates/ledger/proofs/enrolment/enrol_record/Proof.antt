@@ -85,7 +85,7 @@ returns-5 c sound =
     } in
     enrolled sound _
     (record-fit-make (view l) r fit)
-    (fit .no-active)
+    (place .before .before .before .if1 .left)
     (rw (add-one n, take-suc-set (l .register .records) n r (omega (arith, count .record-places, place .if3 .left))))
     (sound-record (view l .register) (sound .model .register) r (fit .a-role) (fit .a-place) (fit .fits) (widths start))
     (sound .roles-held)

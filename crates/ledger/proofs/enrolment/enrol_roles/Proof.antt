@@ -50,8 +50,11 @@ Inv-loop l parents n g roles₀ q₀ roles q = Copied parents roles q
 abbrev μ-loop : tie.MeasureT-loop
 μ-loop l parents n g roles₀ q₀ roles q = n - q
 
+array : (c : tie.Start Inv-loop μ-loop) → length (c .args .l .register .roles) ≡ 16
+array c = search needs
+
 counted : (c : tie.Start Inv-loop μ-loop) → Sound (c .args .l) → Counted (c .args .l)
-counted c sound = sound-counted sound (search (needs, long-mapped)) (search needs) (search (needs, long-mapped))
+counted c sound = sound-counted sound (search (needs, long-mapped)) (array c) (search (needs, long-mapped))
 
 returns : tie.Need-returns Inv-loop μ-loop
 returns c sound =
@@ -83,7 +86,9 @@ returns-5 c sound =
     roles-left sound _ (λ fit. both-ways (fit .tree) (failed (c .before .is-tree .ensures) (c .if5 .taken)))
 
 loop-holds : tie.Need-loop-holds Inv-loop μ-loop
-loop-holds c = record { in-slice = search needs; places = search needs; first = refl }
+loop-holds c =
+    let start = c .before .before .before .before .before .before .before .before .before .before .before .before in
+    record { in-slice = search needs; places = array start; first = refl }
 
 shared-slice-read-roles : tie.Need-shared-slice-read-roles Inv-loop μ-loop
 shared-slice-read-roles c = search needs
@@ -119,7 +124,7 @@ returns-6 c sound =
     } in
     enrolled sound _
     (roles-fit-make (view l) s fit)
-    (fit .no-active)
+    (active .if4 .left)
     (rw (copied-all (c .before .loop .inv) (c .loop-test .left)))
     (sound-roles (view l .register) (sound .model .register) s (fit .few) (fit .tree) (λ h. absurd (omega (arith, fit .no-records))))
     (fit .few)
