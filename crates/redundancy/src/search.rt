@@ -5,15 +5,17 @@ use crate::tables::record_column;
 use crate::tables::rows_of;
 use crate::tables::standing_roles;
 use directive::Directive;
-use register::Register;
 use sets::words::Words;
 ghost use mathlib.Core.Path.{_≡_};
 ghost use mathlib.Core.Bool.{_&&_, not};
+ghost use mathlib.Core.List.{List};
 ghost use Prim.Native.Nat.{_≤_};
-ghost use lib.ListN.{take};
+ghost use lib.ListN.{length, take};
 ghost use lib.Bits.{bitAnd};
 ghost use lib.Dec.{eqb};
-ghost use Rattle.register.specs.Register.{contents};
+ghost use Rattle.sets.specs.Words.{wordsOf};
+ghost use Rattle.register.specs.declared.Record.{Record as Held};
+ghost use Rattle.directive.specs.Selection.{selects, SelectionsOf};
 ghost use Rattle.meaning.specs.Meaning.{redundant};
 ghost use Rattle.meaning.specs.Search.{redundantFound, Fit};
 ghost use Rattle.redundancy.specs.Masks.{allCovered};
@@ -98,21 +100,25 @@ fn all_covered(
     true
 }
 
-// Whether the directive is redundant beside the first n active ones.
+// Whether the directive, which selects `chosen`, is redundant beside the first n active ones. `low` and `high` hold the words
+// of the records that each of them selects.
 pub fn is_redundant(
-    g: Register,
+    parents: &[u8; 16],
+    count: usize,
     clock: u32,
     d: Directive,
+    chosen: Words,
     active: [Directive; 32],
     n: usize,
+    low: &[u64; 32],
+    high: &[u64; 32],
 ) -> bool
-    ensures { λ b. ⌜ b ≡ redundantFound (contents g) clock d (take n active) ⌝ }
-    ensures { λ b. ⌜ (Fit (contents g) d → b ≡ redundant (contents g) clock d (take n active)) ⌝ }
+    ensures { λ b. ⌜ ((rs : List Held) → length rs ≤ 128 → chosen ≡ wordsOf (selects rs d) → SelectionsOf rs active n (now (low .entry)) (now (high .entry)) → b ≡ redundantFound (record { roles = take count (now (parents .entry)); records = rs }) clock d (take n active)) ⌝ }
+    ensures { λ b. ⌜ ((rs : List Held) → length rs ≤ 128 → chosen ≡ wordsOf (selects rs d) → SelectionsOf rs active n (now (low .entry)) (now (high .entry)) → Fit (record { roles = take count (now (parents .entry)); records = rs }) d → b ≡ redundant (record { roles = take count (now (parents .entry)); records = rs }) clock d (take n active)) ⌝ }
 {
-    let chosen = directive::selection::selected(g, d);
-    let rows = rows_of(g, d, active, n);
-    let low = rows.low;
-    let high = rows.high;
+    let rows = rows_of(parents, count, d, active, n, low, high);
+    let row_low = rows.low;
+    let row_high = rows.high;
     let origins = rows.origins;
     let purposes = rows.purposes;
     let roles = rows.roles;
@@ -121,15 +127,14 @@ pub fn is_redundant(
     let by_role = columns(&roles);
     let minutes = minutes_of(clock, d, active, n);
     let by_minute = minutes.masks;
-    let parents = g.roles;
     let s = d.subject;
     all_covered(
         chosen,
         d.subject_origins,
         d.purposes,
-        standing_roles(&parents, g.role_count, s, s),
-        &low,
-        &high,
+        standing_roles(parents, count, s, s),
+        &row_low,
+        &row_high,
         &by_origin,
         &by_purpose,
         &by_role,

@@ -1,16 +1,18 @@
 // The tables of the search: the active directives' sets as rows of numbers, and the masks of those that have a bit.
 use directive::Directive;
 use directive::Subject;
-use register::Register;
 use sets::words::Words;
 ghost use mathlib.Core.Path.{_≡_};
 ghost use mathlib.Core.Bool.{_&&_};
+ghost use mathlib.Core.List.{List};
 ghost use Prim.Native.Nat.{ℕ, _+_, _*_, _^_, _<_, _≤_};
 ghost use lib.ListN.{length, take, getD};
 ghost use lib.Dec.{ltb};
 ghost use Rattle.sets.specs.Quantifiers.{oneIf};
 ghost use Rattle.sets.specs.Bits.{setOf};
-ghost use Rattle.register.specs.Register.{contents};
+ghost use Rattle.sets.specs.Words.{wordsOf};
+ghost use Rattle.register.specs.declared.Record.{Record as Held};
+ghost use Rattle.directive.specs.Selection.{selects, SelectionsOf};
 ghost use Rattle.meaning.specs.Search.{standsFor};
 ghost use Rattle.redundancy.specs.Masks.{roleRow, recordRow, column, recordColumn, minuteColumn, RowsOf, MinutesOf};
 
@@ -50,12 +52,10 @@ pub fn standing_roles(parents: &[u8; 16], count: usize, s: Subject, t: Subject) 
 fn every_role(parents: &[u8], count: usize) -> u16
     ensures { λ r. ⌜ r ≡ setOf 16 (λ k. ltb k (length (take count (now (parents .entry))))) ⌝ }
 {
+    let n = register::roles::size(parents, count);
     let mut set: u16 = 0;
     for q in 0..16u16 {
-        if count <= q as usize {
-            return set;
-        }
-        if parents.len() <= q as usize {
+        if n <= q as usize {
             return set;
         }
         set = set + (1 << q);
@@ -72,21 +72,28 @@ fn role_row(parents: &[u8; 16], count: usize, d: Directive, e: Directive) -> u64
     wide(standing_roles(parents, count, s, t))
 }
 
-// The records that e selects, if it is of d's effect.
-fn record_row(g: Register, d: Directive, e: Directive) -> Words
-    ensures { λ w. ⌜ w ≡ recordRow (contents g .records) d e ⌝ }
+// The records that e selects, which are w, if it is of d's effect.
+fn record_row(d: Directive, e: Directive, w: Words) -> Words
+    ensures { λ r. ⌜ ((rs : List Held) → w ≡ wordsOf (selects rs e) → r ≡ recordRow rs d e) ⌝ }
 {
     if d.permit != e.permit {
         return sets::words::none();
     }
-    directive::selection::selected(g, e)
+    w
 }
 
-pub fn rows_of(g: Register, d: Directive, active: [Directive; 32], n: usize) -> Rows
-    ensures { λ r. ⌜ RowsOf (contents g) d active n r ⌝ }
+// `low` and `high` hold the words of the records that each of the first n active directives selects.
+pub fn rows_of(
+    parents: &[u8; 16],
+    count: usize,
+    d: Directive,
+    active: [Directive; 32],
+    n: usize,
+    low: &[u64; 32],
+    high: &[u64; 32],
+) -> Rows
+    ensures { λ r. ⌜ ((rs : List Held) → SelectionsOf rs active n (now (low .entry)) (now (high .entry)) → RowsOf (record { roles = take count (now (parents .entry)); records = rs }) d active n r) ⌝ }
 {
-    let parents = g.roles;
-    let count = g.role_count;
     let none = [0u64; 32];
     let mut rows = Rows {
         roles: none,
@@ -100,8 +107,15 @@ pub fn rows_of(g: Register, d: Directive, active: [Directive; 32], n: usize) -> 
             return rows;
         }
         let e = active[i];
-        let w = record_row(g, d, e);
-        rows.roles[i] = role_row(&parents, count, d, e);
+        let w = record_row(
+            d,
+            e,
+            Words {
+                low: low[i],
+                high: high[i],
+            },
+        );
+        rows.roles[i] = role_row(parents, count, d, e);
         rows.origins[i] = wide(e.subject_origins);
         rows.purposes[i] = wide(e.purposes);
         rows.low[i] = w.low;

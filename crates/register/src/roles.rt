@@ -15,7 +15,7 @@ fn wide(b: u8) -> u16
 }
 
 // How many roles there are, of whose parents the first `count` count.
-fn size(parents: &[u8], count: usize) -> usize
+pub fn size(parents: &[u8], count: usize) -> usize
     ensures { λ n. ⌜ n ≡ length (take count (now (parents .entry))) ⌝ }
 {
     if count < parents.len() {

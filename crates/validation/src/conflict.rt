@@ -5,12 +5,14 @@ use directive::lowest::Best;
 use register::Register;
 use sets::words::Words;
 ghost use mathlib.Core.Path.{_≡_};
-ghost use Prim.Native.Nat.{_<_};
+ghost use mathlib.Core.List.{List};
+ghost use Prim.Native.Nat.{_<_, _≤_};
 ghost use lib.ListN.{length, take};
 ghost use Rattle.sets.specs.Quantifiers.{keep};
 ghost use Rattle.sets.specs.Words.{wordsOf};
+ghost use Rattle.register.specs.declared.Record.{Record as Held};
 ghost use Rattle.register.specs.Register.{contents};
-ghost use Rattle.directive.specs.Selection.{selects};
+ghost use Rattle.directive.specs.Selection.{selects, SelectionsOf};
 ghost use Rattle.directive.specs.Lowest.{bestOf};
 ghost use Rattle.meaning.specs.Meaning.{conflict};
 ghost use Rattle.meaning.specs.Search.{subjectsMeet, conflictFound, Fit};
@@ -32,10 +34,17 @@ pub fn subjects_meet(parents: &[u8; 16], count: usize, s: Subject, t: Subject) -
     }
 }
 
-// Whether d, which selects `chosen`, and e are of opposite effect and overlap in each dimension.
-pub fn conflicts_over(g: Register, clock: u32, d: Directive, chosen: Words, e: Directive) -> bool
-    requires { ⌜ chosen ≡ wordsOf (selects (contents g .records) d) ⌝ }
-    ensures { λ b. ⌜ b ≡ conflictFound (contents g) clock d e ⌝ }
+// Whether d, which selects `chosen`, and e, which selects `other`, are of opposite effect and overlap in each dimension.
+pub fn conflicts_over(
+    parents: &[u8; 16],
+    count: usize,
+    clock: u32,
+    d: Directive,
+    chosen: Words,
+    e: Directive,
+    other: Words,
+) -> bool
+    ensures { λ b. ⌜ ((rs : List Held) → length rs ≤ 128 → chosen ≡ wordsOf (selects rs d) → other ≡ wordsOf (selects rs e) → b ≡ conflictFound (record { roles = take count (now (parents .entry)); records = rs }) clock d e) ⌝ }
 {
     if d.permit == e.permit {
         return false;
@@ -54,13 +63,12 @@ pub fn conflicts_over(g: Register, clock: u32, d: Directive, chosen: Words, e: D
     if !sets::bits::meet(d.purposes % 2048, e.purposes) {
         return false;
     }
-    let parents = g.roles;
     let s = d.subject;
     let t = e.subject;
-    if !subjects_meet(&parents, g.role_count, s, t) {
+    if !subjects_meet(parents, count, s, t) {
         return false;
     }
-    sets::words::overlap(chosen, directive::selection::selected(g, e))
+    sets::words::overlap(chosen, other)
 }
 
 // Whether some request from the clock on is matched by both, which are of opposite effect.
@@ -68,28 +76,43 @@ pub fn conflicts(g: Register, clock: u32, d: Directive, e: Directive) -> bool
     ensures { λ b. ⌜ b ≡ conflictFound (contents g) clock d e ⌝ }
     ensures { λ b. ⌜ (0 < length (contents g .roles) → Fit (contents g) d → Fit (contents g) e → b ≡ conflict (contents g) clock d e) ⌝ }
 {
-    conflicts_over(g, clock, d, directive::selection::selected(g, d), e)
+    let chosen = directive::selection::selected(g, d);
+    let other = directive::selection::selected(g, e);
+    let parents = g.roles;
+    conflicts_over(&parents, g.role_count, clock, d, chosen, e, other)
 }
 
-// The lowest number among those of the first n active directives that d conflicts with.
+// The lowest number among those of the first n active directives that d, which selects `chosen`, conflicts with. `low` and
+// `high` hold the words of the records that each of them selects.
 pub fn lowest_conflict(
-    g: Register,
+    parents: &[u8; 16],
+    count: usize,
     clock: u32,
     d: Directive,
+    chosen: Words,
     active: [Directive; 32],
     n: usize,
+    low: &[u64; 32],
+    high: &[u64; 32],
 ) -> Best
-    ensures { λ r. ⌜ r ≡ bestOf (keep (conflictFound (contents g) clock d) (take n active)) ⌝ }
-    ensures { λ r. ⌜ (0 < length (contents g .roles) → Fit (contents g) d → AllFit (contents g) (take n active) → r ≡ bestOf (keep (conflict (contents g) clock d) (take n active))) ⌝ }
+    ensures { λ r. ⌜ ((rs : List Held) → length rs ≤ 128 → chosen ≡ wordsOf (selects rs d) → SelectionsOf rs active n (now (low .entry)) (now (high .entry)) → r ≡ bestOf (keep (conflictFound (record { roles = take count (now (parents .entry)); records = rs }) clock d) (take n active))) ⌝ }
+    ensures { λ r. ⌜ ((rs : List Held) → length rs ≤ 128 → chosen ≡ wordsOf (selects rs d) → SelectionsOf rs active n (now (low .entry)) (now (high .entry)) → 0 < length (take count (now (parents .entry))) → Fit (record { roles = take count (now (parents .entry)); records = rs }) d → AllFit (record { roles = take count (now (parents .entry)); records = rs }) (take n active) → r ≡ bestOf (keep (conflict (record { roles = take count (now (parents .entry)); records = rs }) clock d) (take n active))) ⌝ }
 {
-    let chosen = directive::selection::selected(g, d);
     let mut best = directive::lowest::nothing();
     for i in 0..32usize {
         if n <= i {
             return best;
         }
         let e = active[i];
-        best = directive::lowest::lower_where(best, e, conflicts_over(g, clock, d, chosen, e));
+        let w = Words {
+            low: low[i],
+            high: high[i],
+        };
+        best = directive::lowest::lower_where(
+            best,
+            e,
+            conflicts_over(parents, count, clock, d, chosen, e, w),
+        );
     }
     best
 }

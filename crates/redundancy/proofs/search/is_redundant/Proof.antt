@@ -1,18 +1,19 @@
 -- `redundancy::is_redundant` searches the tables, and so finds what is meant.
 use Prim.Native.Nat.{_≤_}
 use mathlib.Core.Path.{_≡_, sym, _∙_}
+use mathlib.Core.List.{List}
 use native.Mathlib.Omega.{arith}
 use borrow.Author.Needs.{needs}
 use lib.ListN.{length, take, length-take}
-use Rattle.register.specs.Register.{contents}
+use Rattle.sets.specs.Words.{wordsOf}
+use Rattle.register.specs.declared.Record.{Record}
 use Rattle.register.proofs.ArrayLaws.{long-mapped}
+use Rattle.directive.specs.Selection.{selects, SelectionsOf}
+use Rattle.meaning.specs.Search.{redundantFound}
 use Rattle.meaning.proofs.Exact.{redundant-exact}
 use Rattle.redundancy.proofs.TableLaws.{tables-found}
 use Rattle.redundancy.proofs.search.is_redundant.Statement.{statement}
 use Rattle.redundancy.proofs.search.is_redundant.Tie as tie
-
-selected-requires : tie.Need-selected-requires
-selected-requires c κs = search needs
 
 rows-of-requires : tie.Need-rows-of-requires
 rows-of-requires c κs = search needs
@@ -38,48 +39,48 @@ all-covered-requires c κs = search needs
 -- what owning the arrays tells of their lengths
 lengths :
     (c : tie.Start) →
-    (length (c .args .active) ≡ 32)
-    × (length (contents (c .args .g) .records) ≤ 128)
-    × (length (contents (c .args .g) .roles) ≤ 16)
+    (length (c .args .active) ≡ 32) × (length (take (c .args .count) (c .args .parents .now)) ≤ 16)
 lengths c =
     let active : length (c .args .active) ≡ 32 = search (needs, long-mapped) in
-    let records : length (c .args .g .records) ≡ 128 = search (needs, long-mapped) in
-    let roles : length (c .args .g .roles) ≡ 16 = search needs in
-    (active, simp length-take (omega arith), simp length-take (omega arith))
+    let parents : length (c .args .parents .now) ≡ 16 = search needs in
+    (active, simp length-take (omega arith))
 
 returns : tie.Need-returns
 returns c =
     let standing = c .before .before .before .before .before .before .before in
-    let minutes = standing .before .before .before .before in
+    let minutes = standing .before .before in
     let roles = minutes .before in
     let purposes = roles .before .before in
     let origins = purposes .before .before in
     let rows = origins .before .before .before .before .before .before .before in
-    let entry = rows .before .before in
-    let args = entry .args in
-    let (long, few-records, few-roles) = lengths entry in
-    let found =
-    tables-found (contents (args .g)) (args .clock) (args .d) (args .active) (args .n) long few-records few-roles
-    (rows .rows-of .result) (rows .rows-of .ensures)
-    (origins .columns .result) (purposes .columns2 .result) (roles .columns3 .result)
-    (origins .columns .ensures) (purposes .columns2 .ensures) (roles .columns3 .ensures)
-    (rows .before .selected .result) (standing .standing-roles .result) (minutes .minutes-of .result)
-    (rows .before .selected .ensures) (standing .standing-roles .ensures) (minutes .minutes-of .ensures)
-    (c .all-covered .ensures)
+    let args = rows .before .args in
+    let (long, few-roles) = lengths (rows .before) in
+    let found :
+        (rs : List Record) → length rs ≤ 128 → args .chosen ≡ wordsOf (selects rs (args .d)) →
+        SelectionsOf rs (args .active) (args .n) (args .low .now) (args .high .now) →
+        c .all-covered .result
+        ≡ redundantFound (record { roles = take (args .count) (args .parents .now); records = rs }) (args .clock) (args .d)
+        (take (args .n) (args .active)) =
+    λ rs few is-chosen are.
+        tables-found _ (args .clock) (args .d) (args .active) (args .n) long few few-roles
+        (rows .rows-of .result) (rows .rows-of .ensures rs are)
+        (origins .columns .result) (purposes .columns2 .result) (roles .columns3 .result)
+        (origins .columns .ensures) (purposes .columns2 .ensures) (roles .columns3 .ensures)
+        (args .chosen) (standing .standing-roles .result) (minutes .minutes-of .result)
+        is-chosen (standing .standing-roles .ensures) (minutes .minutes-of .ensures)
+        (c .all-covered .ensures)
     in (
       found,
-      λ fit.
-          found
+      λ rs few is-chosen are fit.
+          found rs few is-chosen are
           ∙ sym
-          (redundant-exact (contents (args .g)) (args .clock) (args .d) (take (args .n) (args .active)) fit
-          (simp length-take (omega arith))),
+          (redundant-exact _ (args .clock) (args .d) (take (args .n) (args .active)) fit (simp length-take (omega arith))),
     )
 
 pub is-redundant-spec : {M : Type 1} → statement M
 is-redundant-spec =
     tie.close
     (tie.spec
-    selected-requires
     rows-of-requires
     columns-requires
     columns-requires-2

@@ -1,12 +1,12 @@
 -- `redundancy::every_role` adds the roles in turn: after q turns the set has those below q.
-use Prim.Native.Nat.{ℕ, _+_, _*_, _%_, _^_, _<_, _≤_, _-_, min}
+use Prim.Native.Nat.{ℕ, _+_, _*_, _%_, _^_, _<_, _≤_, _-_}
 use mathlib.Core.Path.{_≡_, refl, _∙_}
 use mathlib.Core.Bool.{Bool}
 use mathlib.Core.List.{List}
 use native.Mathlib.Omega.{arith}
 use borrow.Author.Needs.{needs}
 use borrow.Author.Tests.{lt-ltb, le-ltb}
-use lib.ListN.{length, take, length-take}
+use lib.ListN.{length, take}
 use lib.Dec.{ltb}
 use lib.Pow.{shl-exact}
 use Rattle.sets.specs.Bits.{setOf}
@@ -19,10 +19,13 @@ abbrev there : List ℕ → ℕ → ℕ → Bool
 there parents count k = ltb k (length (take count parents))
 
 abbrev Inv-loop : tie.InvT-loop
-Inv-loop parents count set₀ q₀ set q = (q ≤ 16) × (set ≡ setOf q (there parents count))
+Inv-loop parents count n set₀ q₀ set q = (q ≤ 16) × (set ≡ setOf q (there parents count))
 
 abbrev μ-loop : tie.MeasureT-loop
-μ-loop parents count set₀ q₀ set q = 16 - q
+μ-loop parents count n set₀ q₀ set q = 16 - q
+
+size-requires : tie.Need-size-requires Inv-loop μ-loop
+size-requires c κs = search needs
 
 loop-holds : tie.Need-loop-holds Inv-loop μ-loop
 unfolding setOf
@@ -31,47 +34,33 @@ loop-holds c = (search needs, refl)
 cast-if1 : tie.Need-cast-if1 Inv-loop μ-loop
 cast-if1 c = search needs
 
--- where role q is past the last
-ended :
-    (c : tie.At-loop Inv-loop μ-loop) →
-    let args = c .before .args in
-    min (args .count) (length (args .parents .now)) ≤ c .loop .q →
-    c .loop .set ≡ setOf 16 (there (args .parents .now) (args .count))
-ended c h =
-    let now = c .loop in
-    let args = c .before .args in
+returns : tie.Need-returns Inv-loop μ-loop
+returns c =
+    let now = c .before .before .loop in
+    let args = c .before .before .before .before .before .args in
     now .inv .1
     ∙ set-cut _ (now .q) 16 (now .inv .0)
-    (λ k _ l. le-ltb k (length (take (args .count) (args .parents .now))) (simp length-take (omega arith)))
-
-returns : tie.Need-returns Inv-loop μ-loop
-returns c = ended (c .before .before) (omega arith)
-
-cast-if2 : tie.Need-cast-if2 Inv-loop μ-loop
-cast-if2 c = search needs
-
-returns-2 : tie.Need-returns-2 Inv-loop μ-loop
-returns-2 c = ended (c .before .before .before) (omega arith)
+    (λ k _ l. le-ltb k (length (take (args .count) (args .parents .now))) (omega arith))
 
 shl-set : tie.Need-shl-set Inv-loop μ-loop
 shl-set c = search needs
 
 -- the set after a turn
 turned :
-    (c : tie.Else2 Inv-loop μ-loop) →
-    let now = c .before .before .before .loop in
-    let args = c .before .before .before .before .args in
+    (c : tie.Else1 Inv-loop μ-loop) →
+    let now = c .before .before .loop in
+    let args = c .before .before .before .before .before .args in
     now .set + 1 * 2 ^ now .q % 65536 ≡ setOf (now .q + 1) (there (args .parents .now) (args .count))
 turned c =
-    let now = c .before .before .before .loop in
-    let args = c .before .before .before .before .args in
-    let less : now .q < length (take (args .count) (args .parents .now)) = simp length-take (omega arith) in
+    let now = c .before .before .loop in
+    let args = c .before .before .before .before .before .args in
+    let less : now .q < length (take (args .count) (args .parents .now)) = omega arith in
     rw (now .inv .1, shl-exact {a = 1} 1 (now .q) 16 (omega arith) (omega arith))
     (rw (lt-ltb (now .q) _ less) at (set-more (there (args .parents .now) (args .count)) (now .q)))
 
 add-set : tie.Need-add-set Inv-loop μ-loop
 add-set c =
-    let now = c .before .before .before .loop in
+    let now = c .before .before .loop in
     record { fits = rw (turned c) (set-small _ (now .q + 1) 16 (omega arith)) }
 
 add-q : tie.Need-add-q Inv-loop μ-loop
@@ -83,8 +72,8 @@ loop-less c = search needs
 loop-again : tie.Need-loop-again Inv-loop μ-loop
 loop-again c = (search needs, turned c)
 
-returns-3 : tie.Need-returns-3 Inv-loop μ-loop
-returns-3 c =
+returns-2 : tie.Need-returns-2 Inv-loop μ-loop
+returns-2 c =
     let now = c .before .loop in
     let e : now .q ≡ 16 = omega arith in
     rw e at (now .inv .1)
@@ -95,14 +84,13 @@ every-role-spec =
     (tie.spec
     Inv-loop
     μ-loop
+    size-requires
     loop-holds
     cast-if1
     returns
-    cast-if2
-    returns-2
     shl-set
     add-set
     add-q
     loop-less
     loop-again
-    returns-3)
+    returns-2)

@@ -4,7 +4,6 @@ use mathlib.Core.Bool.{true, false, _&&_, not}
 use borrow.Author.Tests.{not-true, not-false}
 use borrow.Author.Needs.{needs}
 use Rattle.sets.proofs.WordLaws.{words-ext}
-use Rattle.register.specs.Register.{contents}
 use Rattle.directive.specs.Selection.{selects}
 use Rattle.meaning.specs.Meaning.{sameEffect}
 use Rattle.redundancy.proofs.tables.record_row.Statement.{statement}
@@ -14,21 +13,18 @@ none-requires : tie.Need-none-requires
 none-requires c κs = search needs
 
 returns : tie.Need-returns
-returns c =
+returns c rs is-row =
     let args = c .before .before .before .before .args in
     let opposite : not (sameEffect (args .d) (args .e)) ≡ true = c .before .if1 .taken in
-    words-ext (c .none .result) (λ x. sameEffect (args .d) (args .e) && selects (contents (args .g) .records) (args .e) x)
+    words-ext (c .none .result) (λ x. sameEffect (args .d) (args .e) && selects (rs) (args .e) x)
     (search needs) (search needs)
     (λ k h. c .none .ensures k ∙ rw (not-true (sameEffect (args .d) (args .e)) opposite))
 
-selected-requires : tie.Need-selected-requires
-selected-requires c κs = search needs
-
 returns-2 : tie.Need-returns-2
-returns-2 c =
-    let args = c .before .before .before .before .args in
-    let same : not (sameEffect (args .d) (args .e)) ≡ false = c .before .if1 .left in
-    c .selected .ensures ∙ rw (not-false (sameEffect (args .d) (args .e)) same)
+returns-2 c rs is-row =
+    let args = c .before .before .before .args in
+    let same : not (sameEffect (args .d) (args .e)) ≡ false = c .if1 .left in
+    is-row ∙ rw (not-false (sameEffect (args .d) (args .e)) same)
 
 pub record-row-spec : {M : Type 1} → statement M
-record-row-spec = tie.close (tie.spec none-requires returns selected-requires returns-2)
+record-row-spec = tie.close (tie.spec none-requires returns returns-2)

@@ -28,14 +28,11 @@ abbrev own : List Record → ℕ → ℕ → ℕ → Bool
 own records patient person x = eqb (getD records x noRecord .author) person || eqb patient person
 
 abbrev Inv-loop : tie.InvT-loop
-Inv-loop patient person chosen records x₀ x =
+Inv-loop patient chosen person records x₀ x =
     (x ≤ 128) × (someOf x (contains chosen) (own records patient person) ≡ false)
 
 abbrev μ-loop : tie.MeasureT-loop
-μ-loop patient person chosen records x₀ x = 128 - x
-
-selected-requires : tie.Need-selected-requires Inv-loop μ-loop
-selected-requires c κs = search needs
+μ-loop patient chosen person records x₀ x = 128 - x
 
 loop-holds : tie.Need-loop-holds Inv-loop μ-loop
 unfolding someOf someBelow
@@ -52,23 +49,23 @@ array-copy-out-r c = search needs
 
 -- the places that the set has are the records that the directive selects
 selected-own :
-    (c : tie.After-selected Inv-loop μ-loop) →
-    let args = c .before .args in
+    (c : tie.Start Inv-loop μ-loop) →
+    let args = c .args in
     let rs = contents (args .g) .records in
-    someOf 128 (contains (c .selected .result)) (own (args .g .records) (args .patient) (args .person))
+    someOf 128 (contains (args .chosen)) (own (args .g .records) (args .patient) (args .person))
     ≡ someOf (length rs) (selects rs (args .d)) (hasBaseline (contents (args .g)) (args .patient) (args .person))
 selected-own c =
-    let g = c .before .args .g in
+    let g = c .args .g in
     let long : length (g .records) ≡ 128 = search (needs, long-mapped) in
-    rw (c .selected .ensures)
-    (some-selected (contents g .records) (c .before .args .d) _ _ (simp length-take (omega arith))
+    rw (c .pre)
+    (some-selected (contents g .records) (c .args .d) _ _ (simp length-take (omega arith))
     (λ k l. rw (getD-take (g .«record_count») (g .records) k noRecord (omega (arith, simp length-take at l)))))
 
 -- a selected record that passes is one
 passing :
     (c : tie.Then1 Inv-loop μ-loop) →
     let turn = c .before .before .before in
-    let args = turn .before .before .before .args in
+    let args = turn .before .before .args in
     let rs = contents (args .g) .records in
     own (args .g .records) (args .patient) (args .person) (turn .loop .x) ≡ true →
     true ≡ someOf (length rs) (selects rs (args .d)) (hasBaseline (contents (args .g)) (args .patient) (args .person))
@@ -115,7 +112,6 @@ selects-own-spec =
     (tie.spec
     Inv-loop
     μ-loop
-    selected-requires
     loop-holds
     member-requires
     mul-r

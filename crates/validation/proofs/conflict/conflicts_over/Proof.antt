@@ -1,18 +1,15 @@
 -- `conflict::conflicts_over` tests the effects, then the dimensions in turn, the records last.
-use Prim.Native.Nat.{_≤_}
 use mathlib.Core.Path.{_≡_, sym, _∙_}
 use native.Mathlib.Omega.{arith}
-use lib.ListN.{length, length-take}
+use lib.ListN.{length}
 use Rattle.sets.specs.Quantifiers.{someOf}
 use Rattle.sets.proofs.Quantifiers.{same-test, never-true, both-ways}
 use Rattle.sets.proofs.BitLaws.{shares-low}
 use Rattle.sets.proofs.WordLaws.{contains-words}
-use Rattle.register.specs.Register.{contents}
-use Rattle.register.proofs.ArrayLaws.{long-mapped}
 use Rattle.register.proofs.CallLaws.{failed, passed}
 use Rattle.directive.specs.Selection.{selects}
 use Rattle.directive.proofs.SelectLaws.{some-selected}
-use Rattle.meaning.specs.Search.{subjectsMeet, conflictFound}
+use Rattle.meaning.specs.Search.{conflictFound}
 use Rattle.meaning.proofs.ConflictLaws.{found-read, found-make}
 use borrow.Author.Needs.{needs}
 use Rattle.validation.proofs.conflict.conflicts_over.Statement.{statement}
@@ -20,7 +17,7 @@ use Rattle.validation.proofs.conflict.conflicts_over.Tie as tie
 
 returns : tie.Need-returns
 unfolding conflictFound
-returns c = rw (c .if1 .taken)
+returns c rs few is-chosen is-other = rw (c .if1 .taken)
 
 start-requires : tie.Need-start-requires
 start-requires c κs = search needs
@@ -35,13 +32,13 @@ earliest-requires : tie.Need-earliest-requires
 earliest-requires c κs = search needs
 
 returns-2 : tie.Need-returns-2
-returns-2 c = sym (never-true _ (λ t. omega (arith, found-read _ _ _ _ t .span)))
+returns-2 c rs few is-chosen is-other = sym (never-true _ (λ t. omega (arith, found-read _ _ _ _ t .span)))
 
 meet-requires : tie.Need-meet-requires
 meet-requires c κs = search needs
 
 returns-3 : tie.Need-returns-3
-returns-3 c =
+returns-3 c rs few is-chosen is-other =
     sym
     (never-true _ (λ t. both-ways (found-read _ _ _ _ t .origin) (failed (c .before .meet .ensures) (c .if3 .taken))))
 
@@ -49,7 +46,7 @@ meet-requires-2 : tie.Need-meet-requires-2
 meet-requires-2 c κs = search needs
 
 returns-4 : tie.Need-returns-4
-returns-4 c =
+returns-4 c rs few is-chosen is-other =
     sym
     (never-true _ (λ t. both-ways (found-read _ _ _ _ t .purpose)
     (failed (c .before .meet2 .ensures ∙ shares-low 11 16 _ _ (omega arith)) (c .if4 .taken))))
@@ -58,43 +55,33 @@ subjects-meet-requires : tie.Need-subjects-meet-requires
 subjects-meet-requires c κs = search needs
 
 returns-5 : tie.Need-returns-5
-returns-5 c =
+returns-5 c rs few is-chosen is-other =
     sym
     (never-true _ (λ t. both-ways (found-read _ _ _ _ t .subject) (failed (c .before .subjects-meet .ensures) (c .if5 .taken))))
-
-selected-requires : tie.Need-selected-requires
-selected-requires c κs = search needs
 
 overlap-requires : tie.Need-overlap-requires
 overlap-requires c κs = search needs
 
--- at most 128 records
-few : (c : tie.Start) → length (contents (c .args .g) .records) ≤ 128
-few c =
-    let long : length (c .args .g .records) ≡ 128 = search (needs, long-mapped) in
-    simp length-take (omega arith)
-
 returns-6 : tie.Need-returns-6
-returns-6 c =
-    let subjects-tested = c .before .before in
-    let purposes-tested = subjects-tested .before .before .before .before in
+returns-6 c rs few is-chosen is-other =
+    let subjects-tested = c .before in
+    let purposes-tested = subjects-tested .before .before in
     let origins-tested = purposes-tested .before .before .before in
     let minutes-tested = origins-tested .before .before in
     let effects-tested = minutes-tested .before .before .before .before .before in
-    let begin = effects-tested .before .before .before in
-    let rs = contents (begin .args .g) .records in
-    let d = begin .args .d in
-    let e = begin .args .e in
+    let args = effects-tested .before .before .before .args in
+    let d = args .d in
+    let e = args .e in
     let records : c .overlap .result ≡ someOf (length rs) (selects rs d) (selects rs e) =
     c .overlap .ensures
-    ∙ rw (begin .pre, c .before .selected .ensures)
-    (some-selected rs d _ (selects rs e) (few begin) (λ k l. contains-words (selects rs e) k (omega (arith, few begin)))) in
+    ∙ rw (is-chosen, is-other)
+    (some-selected rs d _ (selects rs e) few (λ k l. contains-words (selects rs e) k (omega arith))) in
     same-test _ _
     (λ t.
     found-make _ _ _ _
     (record {
       opposite = effects-tested .if1 .left;
-      subject = passed {b = subjectsMeet (contents (begin .args .g) .roles) (d .subject) (e .subject)} (subjects-tested .before .subjects-meet .ensures) (subjects-tested .if5 .left);
+      subject = passed (subjects-tested .before .subjects-meet .ensures) (subjects-tested .if5 .left);
       origin = passed (origins-tested .before .meet .ensures) (origins-tested .if3 .left);
       selected = sym records ∙ t;
       purpose = passed (purposes-tested .before .meet2 .ensures ∙ shares-low 11 16 _ _ (omega arith)) (purposes-tested .if4 .left);
@@ -118,6 +105,5 @@ conflicts-over-spec =
     returns-4
     subjects-meet-requires
     returns-5
-    selected-requires
     overlap-requires
     returns-6)

@@ -5,16 +5,18 @@ use mathlib.Core.List.{List}
 use native.Mathlib.Omega.{arith}
 use borrow.Author.Needs.{needs}
 use lib.ListN.{length, take}
-use lib.Seq.{take-all}
 use Rattle.sets.specs.Quantifiers.{keep}
-use Rattle.sets.proofs.Keep.{keep-next}
+use Rattle.sets.specs.Words.{wordsOf}
+use Rattle.sets.specs.declared.words.Words.{Words}
 use Rattle.sets.proofs.Lists.{keep-alike}
-use Rattle.register.specs.Register.{Contents, contents}
+use Rattle.register.specs.declared.Record.{Record}
 use Rattle.register.proofs.ArrayLaws.{long-mapped}
 use Rattle.directive.specs.declared.Directive.{Directive}
 use Rattle.directive.specs.declared.lowest.Best.{Best}
-use Rattle.directive.specs.Nothing.{noDirective}
+use Rattle.directive.specs.Selection.{selects, SelectionsOf}
 use Rattle.directive.specs.Lowest.{bestOf}
+use Rattle.directive.proofs.SelectionLaws.{words-at}
+use Rattle.directive.proofs.MetLaws.{Met, met-none, met-next, met-counted, met-full}
 use Rattle.meaning.specs.Meaning.{conflict}
 use Rattle.meaning.specs.Search.{conflictFound, Fit}
 use Rattle.meaning.specs.Active.{AllFit}
@@ -22,42 +24,53 @@ use Rattle.meaning.proofs.Exact.{conflict-exact}
 use Rattle.validation.proofs.conflict.lowest_conflict.Statement.{statement}
 use Rattle.validation.proofs.conflict.lowest_conflict.Tie as tie
 
+-- the words are those of these records
+abbrev Chosen : List Record → Directive → Words → List Directive → ℕ → List ℕ → List ℕ → Type 0 → Type 0
+Chosen rs d chosen active n low high A =
+    length rs ≤ 128 → chosen ≡ wordsOf (selects rs d) → SelectionsOf rs active n low high → A
+
 -- what is found is what is meant
-promised :
-    (g : Contents) (clock : ℕ) (d : Directive) (es : List Directive) (r : Best) →
-    r ≡ bestOf (keep (conflictFound g clock d) es) →
-    (r ≡ bestOf (keep (conflictFound g clock d) es))
-    × (0 < length (g .roles) → Fit g d → AllFit g es → r ≡ bestOf (keep (conflict g clock d) es))
-promised g clock d es r e = (
-  e,
-  λ a-role fit allIn.
-      e ∙ ap bestOf (sym (keep-alike _ _ es (λ x m. conflict-exact g clock a-role d x fit (allIn x m)))),
-)
+module _ (roles : List ℕ) (clock : ℕ) (d : Directive) {chosen : Words} {active : List Directive} {n : ℕ} {low high : List ℕ} {r : Best} where
+  promised :
+      ((rs : List Record) → Chosen rs d chosen active n low high
+      (r ≡ bestOf (keep (conflictFound (record { roles = roles; records = rs }) clock d) (take n active)))) →
+      ((rs : List Record) → Chosen rs d chosen active n low high
+      (r ≡ bestOf (keep (conflictFound (record { roles = roles; records = rs }) clock d) (take n active))))
+      × ((rs : List Record) → Chosen rs d chosen active n low high
+      (0 < length roles → Fit (record { roles = roles; records = rs }) d →
+      AllFit (record { roles = roles; records = rs }) (take n active) →
+      r ≡ bestOf (keep (conflict (record { roles = roles; records = rs }) clock d) (take n active))))
+  promised found = (
+    found,
+    λ rs few is-chosen are a-role fit allIn.
+        found rs few is-chosen are
+        ∙ ap bestOf
+        (sym (keep-alike _ _ (take n active) (λ e m. conflict-exact (record { roles = roles; records = rs }) clock a-role d e fit (allIn e m)))),
+  )
 
 abbrev Inv-loop : tie.InvT-loop
-Inv-loop g clock d n active chosen best₀ i₀ best i =
-    (i ≤ 32) × (i ≤ n) × (best ≡ bestOf (keep (conflictFound (contents g) clock d) (take i active)))
+Inv-loop parents count clock d chosen n low high active best₀ i₀ best i =
+    (rs : List Record) → Chosen rs d chosen active n low high
+    (Met (conflictFound (record { roles = take count parents; records = rs }) clock d) active n best i)
 
 abbrev μ-loop : tie.MeasureT-loop
-μ-loop g clock d n active chosen best₀ i₀ best i = 32 - i
+μ-loop parents count clock d chosen n low high active best₀ i₀ best i = 32 - i
 
-selected-requires : tie.Need-selected-requires Inv-loop μ-loop
-selected-requires c κs = search needs
+-- what owning the array tells of its length
+long : (c : tie.Start Inv-loop μ-loop) → length (c .args .t6) ≡ 32
+long c = search (needs, long-mapped)
 
 nothing-requires : tie.Need-nothing-requires Inv-loop μ-loop
 nothing-requires c κs = search needs
 
 loop-holds : tie.Need-loop-holds Inv-loop μ-loop
-unfolding keep
-loop-holds c = (search needs, search needs, c .nothing .ensures)
+loop-holds c rs few is-chosen are = met-none (c .nothing .ensures)
 
 returns : tie.Need-returns Inv-loop μ-loop
 returns c =
-    let args = c .before .before .before .before .before .args in
-    let now = c .before .before .loop in
-    let allIn : now .i ≡ args .n = omega arith in
-    promised (contents (args .g)) (args .clock) (args .d) (take (args .n) (args .t4)) (now .best)
-    (rw allIn at (now .inv .2))
+    let begin = c .before .before .before .before in
+    promised (take (begin .args .count) (begin .args .parents .now)) (begin .args .clock) (begin .args .d)
+    (λ rs few is-chosen are. met-counted (long begin) (c .before .before .loop .inv rs few is-chosen are) (c .if1 .taken))
 
 mul-e : tie.Need-mul-e Inv-loop μ-loop
 mul-e c = search needs
@@ -65,8 +78,20 @@ mul-e c = search needs
 array-copy-out-e : tie.Need-array-copy-out-e Inv-loop μ-loop
 array-copy-out-e c = search needs
 
+mul-t16 : tie.Need-mul-t16 Inv-loop μ-loop
+mul-t16 c = search needs
+
+element-copy-out-t22 : tie.Need-element-copy-out-t22 Inv-loop μ-loop
+element-copy-out-t22 c = search needs
+
+mul-t23 : tie.Need-mul-t23 Inv-loop μ-loop
+mul-t23 c = search needs
+
+element-copy-out-t26 : tie.Need-element-copy-out-t26 Inv-loop μ-loop
+element-copy-out-t26 c = search needs
+
 conflicts-over-requires : tie.Need-conflicts-over-requires Inv-loop μ-loop
-conflicts-over-requires c κs = c .before .before .before .before .before .selected .ensures
+conflicts-over-requires c κs = search needs
 
 lower-where-requires : tie.Need-lower-where-requires Inv-loop μ-loop
 lower-where-requires c κs = search needs
@@ -78,29 +103,18 @@ loop-less : tie.Need-loop-less Inv-loop μ-loop
 loop-less c = search needs
 
 loop-again : tie.Need-loop-again Inv-loop μ-loop
-loop-again c =
-    let turn = c .before .before .before in
+loop-again c rs few is-chosen are =
+    let turn = c .before .before .before .before .before in
     let now = turn .before .before .loop in
-    let begin = turn .before .before .before .before .before in
-    let args = begin .args in
-    let long : length (args .t4) ≡ 32 = search (needs, long-mapped) in
-    let found = conflictFound (contents (args .g)) (args .clock) (args .d) in (
-      omega (arith, turn),
-      omega (arith, turn),
-      c .lower-where .ensures (keep found (take (now .i) (args .t4))) (now .inv .2)
-          ∙ rw (c .before .conflicts-over .ensures)
-          (ap bestOf (sym (keep-next found (args .t4) (now .i) noDirective (omega (arith, turn))))),
-    )
+    met-next (long (turn .before .before .before .before)) (now .inv rs few is-chosen are) (search needs) (search needs)
+    (c .before .conflicts-over .ensures rs few is-chosen (words-at are (now .i) (omega (arith, turn))))
+    (c .lower-where .ensures)
 
 returns-2 : tie.Need-returns-2 Inv-loop μ-loop
 returns-2 c =
-    let args = c .before .before .before .before .args in
-    let now = c .before .loop in
-    let long : length (args .t4) ≡ 32 = search (needs, long-mapped) in
-    let allIn : take (now .i) (args .t4) ≡ take (args .n) (args .t4) =
-    take-all (now .i) (args .t4) (omega arith) ∙ sym (take-all (args .n) (args .t4) (omega arith)) in
-    promised (contents (args .g)) (args .clock) (args .d) (take (args .n) (args .t4)) (now .best)
-    (rw allIn at (now .inv .2))
+    let begin = c .before .before .before in
+    promised (take (begin .args .count) (begin .args .parents .now)) (begin .args .clock) (begin .args .d)
+    (λ rs few is-chosen are. met-full (long begin) (c .before .loop .inv rs few is-chosen are) (c .loop-test .left))
 
 pub lowest-conflict-spec : {M : Type 1} → statement M
 lowest-conflict-spec =
@@ -108,12 +122,15 @@ lowest-conflict-spec =
     (tie.spec
     Inv-loop
     μ-loop
-    selected-requires
     nothing-requires
     loop-holds
     returns
     mul-e
     array-copy-out-e
+    mul-t16
+    element-copy-out-t22
+    mul-t23
+    element-copy-out-t26
     conflicts-over-requires
     lower-where-requires
     add-i
