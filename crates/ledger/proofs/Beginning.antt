@@ -3,7 +3,7 @@ use Prim.Native.Nat.{ℕ, _^_, _<_}
 use mathlib.Core.Path.{_≡_, refl}
 use native.Mathlib.Omega.{arith}
 use Rattle.register.specs.Register.{emptyRegister}
-use Rattle.directive.proofs.StoreLaws.{no-selections}
+use Rattle.directive.proofs.SelectionLaws.{no-selections}
 use Rattle.ledger.specs.declared.Ledger.{Ledger}
 use Rattle.ledger.specs.State.{view, emptyLedger}
 use Rattle.model.specs.Model.{emptyModel}

@@ -13,7 +13,7 @@ use Rattle.register.specs.declared.Register.{Register}
 use Rattle.register.specs.Register.{Contents, contents}
 use Rattle.register.specs.Tree.{isTree}
 use Rattle.register.specs.Form.{recordFits}
-use Rattle.directive.proofs.StoreLaws.{no-selections}
+use Rattle.directive.proofs.SelectionLaws.{no-selections}
 use Rattle.ledger.specs.declared.Ledger.{Ledger}
 use Rattle.model.specs.Model.{Model, withRegister}
 use Rattle.ledger.specs.State.{view}

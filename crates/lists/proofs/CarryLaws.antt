@@ -10,7 +10,7 @@ use Rattle.register.specs.declared.Record.{Record}
 use Rattle.directive.specs.declared.Directive.{Directive}
 use Rattle.directive.specs.Nothing.{noDirective}
 use Rattle.directive.specs.Selection.{SelectionsOf}
-use Rattle.directive.proofs.StoreLaws.{selections-fewer, selections-more}
+use Rattle.directive.proofs.SelectionLaws.{selections-fewer, selections-more}
 use Rattle.lists.proofs.WalkLaws.{Walked, walked-none, walked-next, walked-all}
 
 -- After i turns of a walk that keeps what passes p, the words of those kept stand with them.

@@ -7,7 +7,7 @@ use lib.ListN.{length}
 use lib.Seq.{take-suc-set}
 use Rattle.sets.specs.declared.words.Words.{Words}
 use Rattle.register.proofs.ArrayLaws.{long-mapped}
-use Rattle.directive.proofs.StoreLaws.{selections-more}
+use Rattle.directive.proofs.SelectionLaws.{selections-more}
 use Rattle.ledger.proofs.commit.with_last.Statement.{statement}
 use Rattle.ledger.proofs.commit.with_last.Tie as tie
 

@@ -1,54 +1,16 @@
 -- `finds::lowest_match`: after i turns the best is that of the first i directives that match.
-use Prim.Native.Nat.{ℕ, _+_, _-_, _<_, _≤_}
-use mathlib.Core.Path.{_≡_, _∙_}
-use mathlib.Core.Bool.{Bool}
-use mathlib.Core.List.{List, [], _∷_, _++_}
-use native.Mathlib.Omega.{arith}
+use Prim.Native.Nat.{_-_}
+use mathlib.Core.Path.{_≡_}
+use mathlib.Core.List.{List}
 use borrow.Author.Needs.{needs}
-use lib.ListN.{length, take, getD}
-use lib.Seq.{take-all}
-use Rattle.sets.specs.Quantifiers.{pick, keep}
-use Rattle.sets.proofs.Keep.{keep-next}
+use lib.ListN.{length, take}
 use Rattle.register.specs.declared.Record.{Record}
 use Rattle.register.specs.Nodes.{NodeOf}
 use Rattle.register.proofs.ArrayLaws.{long-mapped}
-use Rattle.directive.specs.declared.Directive.{Directive}
-use Rattle.directive.specs.declared.lowest.Best.{Best}
-use Rattle.directive.specs.Nothing.{noDirective}
 use Rattle.directive.specs.Matching.{matches}
-use Rattle.directive.specs.Lowest.{bestOf}
+use Rattle.directive.proofs.MetLaws.{Met, met-none, met-next, met-counted, met-full}
 use Rattle.lists.proofs.finds.lowest_match.Statement.{statement}
 use Rattle.lists.proofs.finds.lowest_match.Tie as tie
-
--- what is known before turn i
-record Met (p : Directive → Bool) (active : List Directive) (n : ℕ) (best : Best) (i : ℕ) : Type 0 where
-  in-places : i ≤ 32
-  in-count : i ≤ n
-  lowest : best ≡ bestOf (keep p (take i active))
-
-module _ {p : Directive → Bool} {active : List Directive} {n : ℕ} {best : Best} {i : ℕ} (long : length active ≡ 32)
-    (met : Met p active n best i) where
-  -- directive i counts where it matches
-  met-next :
-      {r : Best} {b : Bool} → i < 32 → i < n → b ≡ p (getD active i noDirective) →
-      ((ds : List Directive) → best ≡ bestOf ds → r ≡ bestOf (pick b (ds ++ (getD active i noDirective ∷ [])) ds)) →
-      Met p active n r (i + 1)
-  met-next h g e lower =
-      record {
-        in-places = omega arith;
-        in-count = omega arith;
-        lowest =
-            lower (keep p (take i active)) (met .lowest)
-            ∙ rw (e, keep-next p active i noDirective (omega arith));
-      }
-
-  met-counted : n ≤ i → best ≡ bestOf (keep p (take n active))
-  met-counted h = let e : i ≡ n = omega (arith, met) in rw e at (met .lowest)
-
-  met-full : 32 ≤ i → best ≡ bestOf (keep p (take n active))
-  met-full h =
-      met .lowest
-      ∙ rw (take-all i active (omega arith), take-all n active (omega (arith, met)))
 
 abbrev Inv-loop : tie.InvT-loop
 Inv-loop n q active parents count asked best₀ i₀ best i =
@@ -68,8 +30,7 @@ nothing-requires : tie.Need-nothing-requires Inv-loop μ-loop
 nothing-requires c κs = search needs
 
 loop-holds : tie.Need-loop-holds Inv-loop μ-loop
-unfolding keep
-loop-holds c rs node = record { in-places = search needs; in-count = search needs; lowest = c .nothing .ensures }
+loop-holds c rs node = met-none (c .nothing .ensures)
 
 returns : tie.Need-returns Inv-loop μ-loop
 returns c =
