@@ -104,14 +104,11 @@ pub fn rows_of(
             return rows;
         }
         let e = active[i];
-        let w = record_row(
-            d,
-            e,
-            Words {
-                low: low[i],
-                high: high[i],
-            },
-        );
+        let selected = Words {
+            low: low[i],
+            high: high[i],
+        };
+        let w = record_row(d, e, selected);
         rows.roles[i] = role_row(parents, count, d, e);
         rows.origins[i] = wide(e.subject_origins);
         rows.purposes[i] = wide(e.purposes);
