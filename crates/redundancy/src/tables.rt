@@ -31,28 +31,25 @@ fn wide(x: u16) -> u64
     x as u64
 }
 
-// The roles in which the subject t covers the person who stands for s.
+// The roles in which the subject t covers the person who stands for s. There are at most 16 roles.
 pub fn standing_roles(parents: &[u8; 16], count: usize, s: Subject, t: Subject) -> u16
     ensures { λ r. ⌜ r ≡ setOf 16 (λ k. ltb k (length (take count (now (parents .entry)))) && standsFor (take count (now (parents .entry))) s t k) ⌝ }
+    ensures { λ r. ⌜ length (take count (now (parents .entry))) ≤ 16 ⌝ }
 {
+    let roles = register::roles::size(parents, count);
     match t {
         Subject::Person(k) => match s {
-            Subject::Person(n) => if k == n {
-                every_role(parents, count)
-            } else {
-                0
-            },
+            Subject::Person(n) => if k == n { every_role(roles) } else { 0 },
             Subject::Role(_) => 0,
         },
         Subject::Role(k) => register::roles::covered_set(parents, count, k),
     }
 }
 
-// The roles that there are, as a set.
-fn every_role(parents: &[u8], count: usize) -> u16
-    ensures { λ r. ⌜ r ≡ setOf 16 (λ k. ltb k (length (take count (now (parents .entry))))) ⌝ }
+// The first n roles, as a set.
+fn every_role(n: usize) -> u16
+    ensures { λ r. ⌜ r ≡ setOf 16 (λ k. ltb k n) ⌝ }
 {
-    let n = register::roles::size(parents, count);
     let mut set: u16 = 0;
     for q in 0..16u16 {
         if n <= q as usize {
@@ -107,14 +104,11 @@ pub fn rows_of(
             return rows;
         }
         let e = active[i];
-        let w = record_row(
-            d,
-            e,
-            Words {
-                low: low[i],
-                high: high[i],
-            },
-        );
+        let selected = Words {
+            low: low[i],
+            high: high[i],
+        };
+        let w = record_row(d, e, selected);
         rows.roles[i] = role_row(parents, count, d, e);
         rows.origins[i] = wide(e.subject_origins);
         rows.purposes[i] = wide(e.purposes);

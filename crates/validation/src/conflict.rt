@@ -108,11 +108,8 @@ pub fn lowest_conflict(
             low: low[i],
             high: high[i],
         };
-        best = directive::lowest::lower_where(
-            best,
-            e,
-            conflicts_over(parents, count, clock, d, chosen, e, w),
-        );
+        let met = conflicts_over(parents, count, clock, d, chosen, e, w);
+        best = directive::lowest::lower_where(best, e, met);
     }
     best
 }

@@ -36,14 +36,9 @@ standing-roles-requires c κs = search needs
 all-covered-requires : tie.Need-all-covered-requires
 all-covered-requires c κs = search needs
 
--- what owning the arrays tells of their lengths
-lengths :
-    (c : tie.Start) →
-    (length (c .args .active) ≡ 32) × (length (take (c .args .count) (c .args .parents .now)) ≤ 16)
-lengths c =
-    let active : length (c .args .active) ≡ 32 = search (needs, long-mapped) in
-    let parents : length (c .args .parents .now) ≡ 16 = search needs in
-    (active, simp length-take (omega arith))
+-- what owning the array tells of its length
+long : (c : tie.Start) → length (c .args .active) ≡ 32
+long c = search (needs, long-mapped)
 
 returns : tie.Need-returns
 returns c =
@@ -54,21 +49,21 @@ returns c =
     let origins = purposes .before .before in
     let rows = origins .before .before .before .before .before .before .before in
     let args = rows .before .args in
-    let (long, few-roles) = lengths (rows .before) in
+    let full = long (rows .before) in
     let found :
-        (rs : List Record) → length rs ≤ 128 → args .chosen ≡ wordsOf (selects rs (args .d)) →
-        SelectionsOf rs (args .active) (args .n) (args .low .now) (args .high .now) →
-        c .all-covered .result
-        ≡ redundantFound (record { roles = take (args .count) (args .parents .now); records = rs }) (args .clock) (args .d)
-        (take (args .n) (args .active)) =
+    (rs : List Record) → length rs ≤ 128 → args .chosen ≡ wordsOf (selects rs (args .d)) →
+    SelectionsOf rs (args .active) (args .n) (args .low .now) (args .high .now) →
+    c .all-covered .result
+    ≡ redundantFound (record { roles = take (args .count) (args .parents .now); records = rs }) (args .clock) (args .d)
+    (take (args .n) (args .active)) =
     λ rs few is-chosen are.
-        tables-found _ (args .clock) (args .d) (args .active) (args .n) long few few-roles
-        (rows .rows-of .result) (rows .rows-of .ensures rs are)
-        (origins .columns .result) (purposes .columns2 .result) (roles .columns3 .result)
-        (origins .columns .ensures) (purposes .columns2 .ensures) (roles .columns3 .ensures)
-        (args .chosen) (standing .standing-roles .result) (minutes .minutes-of .result)
-        is-chosen (standing .standing-roles .ensures) (minutes .minutes-of .ensures)
-        (c .all-covered .ensures)
+    tables-found (record { roles = take (args .count) (args .parents .now); records = rs }) (args .clock) (args .d) (args .active) (args .n) full few (standing .standing-roles .ensures .1)
+    (rows .rows-of .result) (rows .rows-of .ensures rs are)
+    (origins .columns .result) (purposes .columns2 .result) (roles .columns3 .result)
+    (origins .columns .ensures) (purposes .columns2 .ensures) (roles .columns3 .ensures)
+    (args .chosen) (standing .standing-roles .result) (minutes .minutes-of .result)
+    is-chosen (standing .standing-roles .ensures .0) (minutes .minutes-of .ensures)
+    (c .all-covered .ensures)
     in (
       found,
       λ rs few is-chosen are fit.

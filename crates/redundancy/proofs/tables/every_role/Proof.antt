@@ -1,12 +1,9 @@
 -- `redundancy::every_role` adds the roles in turn: after q turns the set has those below q.
-use Prim.Native.Nat.{ℕ, _+_, _*_, _%_, _^_, _<_, _≤_, _-_}
+use Prim.Native.Nat.{_+_, _*_, _%_, _^_, _≤_, _-_}
 use mathlib.Core.Path.{_≡_, refl, _∙_}
-use mathlib.Core.Bool.{Bool}
-use mathlib.Core.List.{List}
 use native.Mathlib.Omega.{arith}
 use borrow.Author.Needs.{needs}
 use borrow.Author.Tests.{lt-ltb, le-ltb}
-use lib.ListN.{length, take}
 use lib.Dec.{ltb}
 use lib.Pow.{shl-exact}
 use Rattle.sets.specs.Bits.{setOf}
@@ -14,18 +11,11 @@ use Rattle.redundancy.proofs.MaskLaws.{set-more, set-small, set-cut}
 use Rattle.redundancy.proofs.tables.every_role.Statement.{statement}
 use Rattle.redundancy.proofs.tables.every_role.Tie as tie
 
--- there is such a role
-abbrev there : List ℕ → ℕ → ℕ → Bool
-there parents count k = ltb k (length (take count parents))
-
 abbrev Inv-loop : tie.InvT-loop
-Inv-loop parents count n set₀ q₀ set q = (q ≤ 16) × (set ≡ setOf q (there parents count))
+Inv-loop n set₀ q₀ set q = (q ≤ 16) × (set ≡ setOf q (λ k. ltb k n))
 
 abbrev μ-loop : tie.MeasureT-loop
-μ-loop parents count n set₀ q₀ set q = 16 - q
-
-size-requires : tie.Need-size-requires Inv-loop μ-loop
-size-requires c κs = search needs
+μ-loop n set₀ q₀ set q = 16 - q
 
 loop-holds : tie.Need-loop-holds Inv-loop μ-loop
 unfolding setOf
@@ -37,10 +27,8 @@ cast-if1 c = search needs
 returns : tie.Need-returns Inv-loop μ-loop
 returns c =
     let now = c .before .before .loop in
-    let args = c .before .before .before .before .before .args in
-    now .inv .1
-    ∙ set-cut _ (now .q) 16 (now .inv .0)
-    (λ k _ l. le-ltb k (length (take (args .count) (args .parents .now))) (omega arith))
+    let args = c .before .before .before .args in
+    now .inv .1 ∙ set-cut _ (now .q) 16 (now .inv .0) (λ k _ l. le-ltb k (args .n) (omega arith))
 
 shl-set : tie.Need-shl-set Inv-loop μ-loop
 shl-set c = search needs
@@ -49,14 +37,12 @@ shl-set c = search needs
 turned :
     (c : tie.Else1 Inv-loop μ-loop) →
     let now = c .before .before .loop in
-    let args = c .before .before .before .before .before .args in
-    now .set + 1 * 2 ^ now .q % 65536 ≡ setOf (now .q + 1) (there (args .parents .now) (args .count))
+    now .set + 1 * 2 ^ now .q % 65536 ≡ setOf (now .q + 1) (λ k. ltb k (c .before .before .before .args .n))
 turned c =
     let now = c .before .before .loop in
-    let args = c .before .before .before .before .before .args in
-    let less : now .q < length (take (args .count) (args .parents .now)) = omega arith in
+    let args = c .before .before .before .args in
     rw (now .inv .1, shl-exact {a = 1} 1 (now .q) 16 (omega arith) (omega arith))
-    (rw (lt-ltb (now .q) _ less) at (set-more (there (args .parents .now) (args .count)) (now .q)))
+    (rw (lt-ltb (now .q) (args .n) (omega arith)) at (set-more (λ k. ltb k (args .n)) (now .q)))
 
 add-set : tie.Need-add-set Inv-loop μ-loop
 add-set c =
@@ -84,7 +70,6 @@ every-role-spec =
     (tie.spec
     Inv-loop
     μ-loop
-    size-requires
     loop-holds
     cast-if1
     returns

@@ -78,17 +78,17 @@ mul-e c = search needs
 array-copy-out-e : tie.Need-array-copy-out-e Inv-loop μ-loop
 array-copy-out-e c = search needs
 
-mul-t16 : tie.Need-mul-t16 Inv-loop μ-loop
-mul-t16 c = search needs
+mul-t17 : tie.Need-mul-t17 Inv-loop μ-loop
+mul-t17 c = search needs
 
-element-copy-out-t22 : tie.Need-element-copy-out-t22 Inv-loop μ-loop
-element-copy-out-t22 c = search needs
+element-copy-out-t23 : tie.Need-element-copy-out-t23 Inv-loop μ-loop
+element-copy-out-t23 c = search needs
 
-mul-t23 : tie.Need-mul-t23 Inv-loop μ-loop
-mul-t23 c = search needs
+mul-t24 : tie.Need-mul-t24 Inv-loop μ-loop
+mul-t24 c = search needs
 
-element-copy-out-t26 : tie.Need-element-copy-out-t26 Inv-loop μ-loop
-element-copy-out-t26 c = search needs
+element-copy-out-t27 : tie.Need-element-copy-out-t27 Inv-loop μ-loop
+element-copy-out-t27 c = search needs
 
 conflicts-over-requires : tie.Need-conflicts-over-requires Inv-loop μ-loop
 conflicts-over-requires c κs = search needs
@@ -127,10 +127,10 @@ lowest-conflict-spec =
     returns
     mul-e
     array-copy-out-e
-    mul-t16
-    element-copy-out-t22
-    mul-t23
-    element-copy-out-t26
+    mul-t17
+    element-copy-out-t23
+    mul-t24
+    element-copy-out-t27
     conflicts-over-requires
     lower-where-requires
     add-i
