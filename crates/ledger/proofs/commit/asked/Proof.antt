@@ -1,12 +1,14 @@
 -- `commit::asked` asks the questions 7 to 13 in turn; each return is the first "no", or none.
-use Prim.Native.Nat.{ℕ}
-use mathlib.Core.Path.{_≡_, sym, ap, _∙_}
+use Prim.Native.Nat.{ℕ, _≤_}
+use mathlib.Core.Path.{_≡_, refl, sym, ap, _∙_}
 use mathlib.Core.Bool.{true, false}
+use native.Mathlib.Omega.{arith}
 use borrow.Author.Needs.{needs}
 use borrow.Author.Tests.{lt-ltb, le-ltb}
 use lib.ListN.{length, length-take, take}
 use Rattle.sets.specs.Quantifiers.{keep}
 use Rattle.sets.proofs.Lists.{take-held}
+use Rattle.sets.proofs.Quantifiers.{both-ways}
 use Rattle.register.proofs.ArrayLaws.{long-mapped}
 use Rattle.register.proofs.CallLaws.{failed, passed}
 use Rattle.directive.specs.declared.Directive.{Directive}
@@ -14,10 +16,12 @@ use Rattle.drafts.specs.declared.Draft.{Draft}
 use Rattle.directive.specs.declared.lowest.Best.{Best}
 use Rattle.drafts.specs.Form.{keepsRanges, directiveOf}
 use Rattle.directive.specs.Lowest.{bestOf}
+use Rattle.directive.proofs.SelectionLaws.{selections-fewer}
 use Rattle.directive.proofs.LowestLaws.{best-found, best-number}
 use Rattle.meaning.specs.Search.{conflictFound}
 use Rattle.ledger.specs.declared.Ledger.{Ledger}
 use Rattle.ledger.specs.State.{view}
+use Rattle.ledger.specs.Sound.{Selected}
 use Rattle.model.specs.Questions.{firstNo, inRegister, hasMinutes, isActive, directiveQuestions}
 use Rattle.ledger.proofs.commit.asked.Statement.{statement}
 use Rattle.ledger.proofs.commit.asked.Tie as tie
@@ -27,10 +31,7 @@ keeps-ranges-requires c κs = search needs
 
 returns : tie.Need-returns
 unfolding directiveQuestions firstNo
-returns c = rw (failed (c .before .keeps-ranges .ensures) (c .if1 .taken))
-
-directive-of-requires : tie.Need-directive-of-requires
-directive-of-requires c κs = search needs
+returns c = (λ _. rw (failed (c .before .keeps-ranges .ensures) (c .if1 .taken)), λ t. both-ways t refl)
 
 in-register-requires : tie.Need-in-register-requires
 in-register-requires c κs = search needs
@@ -42,10 +43,11 @@ ranges c = passed (c .before .keeps-ranges .ensures) (c .if1 .left)
 returns-2 : tie.Need-returns-2
 unfolding directiveQuestions firstNo
 returns-2 c =
-    let meant = c .before .before .before in
-    rw (
-      ranges (meant .before),
-      failed (rw (meant .directive-of .ensures) at (c .before .in-register .ensures)) (c .if2 .taken),
+    let within = c .before .before .before in
+    let d = within .before .before .pre .0 in
+    (
+      λ _. rw (ranges within, failed (rw d at (c .before .in-register .ensures)) (c .if2 .taken)),
+      λ t. both-ways t refl,
     )
 
 has-minutes-requires : tie.Need-has-minutes-requires
@@ -54,20 +56,21 @@ has-minutes-requires c κs = search needs
 -- question 8 is passed
 there :
     (c : tie.Else2) →
-    let args = c .before .before .before .before .before .before .args in
+    let args = c .before .before .before .before .before .args in
     inRegister (view (args .l) .register) (directiveOf (args .s)) ≡ true
 there c =
-    passed (rw (c .before .before .before .directive-of .ensures) at (c .before .in-register .ensures)) (c .if2 .left)
+    let start = c .before .before .before .before .before in
+    passed (rw (start .pre .0) at (c .before .in-register .ensures)) (c .if2 .left)
 
 returns-3 : tie.Need-returns-3
 unfolding directiveQuestions firstNo
 returns-3 c =
     let in-it = c .before .before in
-    let meant = in-it .before .before .before in
-    rw (
-      ranges (meant .before),
-      there in-it,
-      failed (rw (meant .directive-of .ensures) at (c .before .has-minutes .ensures)) (c .if3 .taken),
+    let within = in-it .before .before .before in
+    let d = within .before .before .pre .0 in
+    (
+      λ _. rw (ranges within, there in-it, failed (rw d at (c .before .has-minutes .ensures)) (c .if3 .taken)),
+      λ t. both-ways t refl,
     )
 
 held-requires : tie.Need-held-requires
@@ -90,20 +93,20 @@ array c = search (needs, long-mapped)
 
 past :
     (c : tie.After-held) →
-    let meant = c .before .before .before .before .before .before .before in
-    let args = meant .before .before .before .args in
-    Past (args .l) (args .s) (meant .directive-of .result) (c .held .result)
+    let args = c .before .before .before .before .before .before .before .before .before .args in
+    Past (args .l) (args .s) (args .d) (c .held .result)
 past c =
     let tested = c .before .before in
-    let meant = tested .before .before .before .before .before in
-    let l = meant .before .before .before .args .l in
-    let many : c .held .result ≡ length (view l .active) =
-    rw (length-take, array (meant .before .before .before)) (c .held .ensures) in
+    let in-it = tested .before .before in
+    let within = in-it .before .before .before in
+    let start = within .before .before in
+    let l = start .args .l in
+    let many : c .held .result ≡ length (view l .active) = rw (length-take, array start) (c .held .ensures) in
     record {
-      written = meant .directive-of .ensures;
-      in-ranges = ranges (meant .before);
-      in-it = there (tested .before .before);
-      minutes = passed (rw (meant .directive-of .ensures) at (tested .before .has-minutes .ensures)) (tested .if3 .left);
+      written = start .pre .0;
+      in-ranges = ranges within;
+      in-it = there in-it;
+      minutes = passed (rw (start .pre .0) at (tested .before .has-minutes .ensures)) (tested .if3 .left);
       all = rw many (take-held (l .«active_count») (l .active));
       many = many;
     }
@@ -112,17 +115,21 @@ returns-4 : tie.Need-returns-4
 unfolding directiveQuestions firstNo
 returns-4 c =
     let p = past (c .before .before) in
-    rw (
-      p .in-ranges,
-      p .in-it,
-      p .minutes,
-      sym (rw (p .written, p .all) at (c .before .is-active .ensures)) ∙ c .if4 .taken,
+    (
+      λ _.
+          rw (
+            p .in-ranges,
+            p .in-it,
+            p .minutes,
+            sym (rw (p .written, p .all) at (c .before .is-active .ensures)) ∙ c .if4 .taken,
+          ),
+      λ t. both-ways t refl,
     )
 
 -- question 10 is passed
 free :
     (c : tie.Else4) →
-    let args = c .before .before .before .before .before .before .before .before .before .before .before .before .args in
+    let args = c .before .before .before .before .before .before .before .before .before .before .before .args in
     isActive (directiveOf (args .s) .number) (view (args .l) .active) ≡ false
 free c =
     let p = past (c .before .before) in
@@ -132,12 +139,16 @@ returns-5 : tie.Need-returns-5
 unfolding directiveQuestions firstNo
 returns-5 c =
     let p = past (c .before .before .before) in
-    rw (
-      p .in-ranges,
-      p .in-it,
-      p .minutes,
-      free (c .before),
-      le-ltb _ 32 (rw (p .many) at (c .if5 .taken)),
+    (
+      λ _.
+          rw (
+            p .in-ranges,
+            p .in-it,
+            p .minutes,
+            free (c .before),
+            le-ltb _ 32 (rw (p .many) at (c .if5 .taken)),
+          ),
+      λ t. both-ways t refl,
     )
 
 breaks-baseline-requires : tie.Need-breaks-baseline-requires
@@ -148,63 +159,85 @@ unfolding directiveQuestions firstNo
 returns-6 c =
     let room = c .before .before in
     let p = past (room .before .before .before) in
-    rw (
-      p .in-ranges,
-      p .in-it,
-      p .minutes,
-      free (room .before),
-      lt-ltb _ 32 (rw (p .many) at (room .if5 .left)),
-      sym (rw (p .written) at (c .before .breaks-baseline .ensures .0)) ∙ c .if6 .taken,
+    (
+      λ _.
+          rw (
+            p .in-ranges,
+            p .in-it,
+            p .minutes,
+            free (room .before),
+            lt-ltb _ 32 (rw (p .many) at (room .if5 .left)),
+            sym (rw (p .written) at (c .before .breaks-baseline .ensures .0)) ∙ c .if6 .taken,
+          ),
+      λ t. both-ways t refl,
     )
 
 lowest-conflict-requires : tie.Need-lowest-conflict-requires
 lowest-conflict-requires c κs = search needs
 
+few : (c : tie.Start) → length (view (c .args .l) .register .records) ≤ 128
+few c =
+    let long : length (c .args .l .register .records) ≡ 128 = search (needs, long-mapped) in
+    simp length-take (omega arith)
+
 -- the lowest conflict among the active directives
 lowest :
     (c : tie.After-lowest-conflict) →
-    let args = c .before .before .before .before .before .before .before .before .before .before .before .before .before .before .before .before .args in
-    let m = view (args .l) in
+    let held = c .before .before .before .before .before .before .before .before .before .before .before .before in
+    let args = held .before .before .before .before .before .before .before .before .before .args in
+    let m = view (args .l) in Selected (args .l) →
     c .lowest-conflict .result ≡ bestOf (keep (conflictFound (m .register) (m .clock) (directiveOf (args .s))) (m .active))
-lowest c =
-    let p = past (c .before .before .before .before .before .before) in
-    rw (p .written, p .all) at (c .lowest-conflict .ensures .0)
+lowest c words =
+    let held = c .before .before .before .before .before .before .before .before .before .before .before .before in
+    let start = held .before .before .before .before .before .before .before .before .before in
+    let p = past held in
+    rw (p .written, p .all) at
+    (c .lowest-conflict .ensures .0 (view (start .args .l) .register .records) (few start) (start .pre .1)
+    (selections-fewer words (held .held .result) (omega arith)))
 
 returns-7 : tie.Need-returns-7
 unfolding directiveQuestions firstNo
 returns-7 c =
-    let spared = c .before .before in
+    let spared = c .before .before .before .before .before .before .before .before in
     let room = spared .before .before in
     let p = past (room .before .before .before) in
-    let best = lowest (c .before) in
-    let is = ap (λ (b : Best). b .found) (sym best) ∙ c .if7 .taken in
-    rw (
-      p .in-ranges,
-      p .in-it,
-      p .minutes,
-      free (room .before),
-      lt-ltb _ 32 (rw (p .many) at (room .if5 .left)),
-      sym (rw (p .written) at (spared .before .breaks-baseline .ensures .0)) ∙ spared .if6 .left,
-      sym (best-found _ _) ∙ is,
-      best-number _ is,
-      best,
+    (
+      λ words.
+          let best = lowest (c .before) words in
+          let is = ap (λ (b : Best). b .found) (sym best) ∙ c .if7 .taken in
+          rw (
+            p .in-ranges,
+            p .in-it,
+            p .minutes,
+            free (room .before),
+            lt-ltb _ 32 (rw (p .many) at (room .if5 .left)),
+            sym (rw (p .written) at (spared .before .breaks-baseline .ensures .0)) ∙ spared .if6 .left,
+            sym (best-found _ _) ∙ is,
+            best-number _ is,
+            best,
+          ),
+      λ t. both-ways t refl,
     )
 
 returns-8 : tie.Need-returns-8
 unfolding directiveQuestions firstNo
 returns-8 c =
-    let spared = c .before .before in
+    let spared = c .before .before .before .before .before .before .before .before in
     let room = spared .before .before in
     let p = past (room .before .before .before) in
-    let best = lowest (c .before) in
-    rw (
-      p .in-ranges,
-      p .in-it,
-      p .minutes,
-      free (room .before),
-      lt-ltb _ 32 (rw (p .many) at (room .if5 .left)),
-      sym (rw (p .written) at (spared .before .breaks-baseline .ensures .0)) ∙ spared .if6 .left,
-      sym (best-found _ _) ∙ ap (λ (b : Best). b .found) (sym best) ∙ c .if7 .left,
+    (
+      λ words.
+          let best = lowest (c .before) words in
+          rw (
+            p .in-ranges,
+            p .in-it,
+            p .minutes,
+            free (room .before),
+            lt-ltb _ 32 (rw (p .many) at (room .if5 .left)),
+            sym (rw (p .written) at (spared .before .breaks-baseline .ensures .0)) ∙ spared .if6 .left,
+            sym (best-found _ _) ∙ ap (λ (b : Best). b .found) (sym best) ∙ c .if7 .left,
+          ),
+      λ t. omega (arith, room .if5 .left, room .before .before .before .held .ensures),
     )
 
 pub asked-spec : {M : Type 1} → statement M
@@ -213,7 +246,6 @@ asked-spec =
     (tie.spec
     keeps-ranges-requires
     returns
-    directive-of-requires
     in-register-requires
     returns-2
     has-minutes-requires
