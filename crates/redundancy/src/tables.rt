@@ -79,7 +79,7 @@ fn record_row(d: Directive, e: Directive, w: Words) -> Words
     w
 }
 
-// `low` and `high` hold the words of the records that each of the first n active directives selects.
+// The rows of the first n active directives for the draft d. `low` and `high` hold the words of the records that each selects.
 pub fn rows_of(
     parents: &[u8; 16],
     count: usize,

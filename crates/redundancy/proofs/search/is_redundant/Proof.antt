@@ -57,7 +57,8 @@ returns c =
     ≡ redundantFound (record { roles = take (args .count) (args .parents .now); records = rs }) (args .clock) (args .d)
     (take (args .n) (args .active)) =
     λ rs few is-chosen are.
-    tables-found (record { roles = take (args .count) (args .parents .now); records = rs }) (args .clock) (args .d) (args .active) (args .n) full few (standing .standing-roles .ensures .1)
+    tables-found (record { roles = take (args .count) (args .parents .now); records = rs })
+    (args .clock) (args .d) (args .active) (args .n) full few (standing .standing-roles .ensures .1)
     (rows .rows-of .result) (rows .rows-of .ensures rs are)
     (origins .columns .result) (purposes .columns2 .result) (roles .columns3 .result)
     (origins .columns .ensures) (purposes .columns2 .ensures) (roles .columns3 .ensures)

@@ -24,7 +24,7 @@ use Rattle.meaning.proofs.Exact.{conflict-exact}
 use Rattle.validation.proofs.conflict.lowest_conflict.Statement.{statement}
 use Rattle.validation.proofs.conflict.lowest_conflict.Tie as tie
 
--- the words are those of these records
+-- A, where the words are those of what the directives select of rs
 abbrev Chosen : List Record → Directive → Words → List Directive → ℕ → List ℕ → List ℕ → Type 0 → Type 0
 Chosen rs d chosen active n low high A =
     length rs ≤ 128 → chosen ≡ wordsOf (selects rs d) → SelectionsOf rs active n low high → A
