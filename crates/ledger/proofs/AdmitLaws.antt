@@ -33,16 +33,6 @@ not-accepted ListFull = refl
 not-accepted BreaksBaseline = refl
 not-accepted (Conflicts n) = refl
 
--- where 11 is passed a place is left
-pub place-left :
-    (j : Judgement) (m : Model) (s : Draft) → done [] ≡ firstNo (directiveQuestions j m s) (done []) →
-    length (m .active) < activePlaces
-unfolding directiveQuestions allIn
-place-left j m s e =
-    let passed : passes (directiveQuestions j m s) ≡ true =
-    sym (first-accepted (directiveQuestions j m s)) ∙ ap accepted (sym e) in
-    ltb-true _ _ (search (and-left, and-right) depth 9)
-
 -- on a sound model the answer is that of what is meant
 pub answer-meant :
     (m : Model) → SoundModel m → (s : Draft) → Widths s → {a : Answer} →

@@ -44,8 +44,7 @@ returns-2 : tie.Need-returns-2
 unfolding directiveQuestions firstNo
 returns-2 c =
     let within = c .before .before .before in
-    let d = within .before .before .pre .0 in
-    (
+    let d = within .before .before .pre .0 in (
       λ _. rw (ranges within, failed (rw d at (c .before .in-register .ensures)) (c .if2 .taken)),
       λ t. both-ways t refl,
     )
@@ -67,8 +66,7 @@ unfolding directiveQuestions firstNo
 returns-3 c =
     let in-it = c .before .before in
     let within = in-it .before .before .before in
-    let d = within .before .before .pre .0 in
-    (
+    let d = within .before .before .pre .0 in (
       λ _. rw (ranges within, there in-it, failed (rw d at (c .before .has-minutes .ensures)) (c .if3 .taken)),
       λ t. both-ways t refl,
     )
@@ -114,8 +112,7 @@ past c =
 returns-4 : tie.Need-returns-4
 unfolding directiveQuestions firstNo
 returns-4 c =
-    let p = past (c .before .before) in
-    (
+    let p = past (c .before .before) in (
       λ _.
           rw (
             p .in-ranges,
@@ -138,8 +135,7 @@ free c =
 returns-5 : tie.Need-returns-5
 unfolding directiveQuestions firstNo
 returns-5 c =
-    let p = past (c .before .before .before) in
-    (
+    let p = past (c .before .before .before) in (
       λ _.
           rw (
             p .in-ranges,
@@ -158,8 +154,7 @@ returns-6 : tie.Need-returns-6
 unfolding directiveQuestions firstNo
 returns-6 c =
     let room = c .before .before in
-    let p = past (room .before .before .before) in
-    (
+    let p = past (room .before .before .before) in (
       λ _.
           rw (
             p .in-ranges,
@@ -200,8 +195,7 @@ unfolding directiveQuestions firstNo
 returns-7 c =
     let spared = c .before .before .before .before .before .before .before .before in
     let room = spared .before .before in
-    let p = past (room .before .before .before) in
-    (
+    let p = past (room .before .before .before) in (
       λ words.
           let best = lowest (c .before) words in
           let is = ap (λ (b : Best). b .found) (sym best) ∙ c .if7 .taken in
@@ -224,8 +218,7 @@ unfolding directiveQuestions firstNo
 returns-8 c =
     let spared = c .before .before .before .before .before .before .before .before in
     let room = spared .before .before in
-    let p = past (room .before .before .before) in
-    (
+    let p = past (room .before .before .before) in (
       λ words.
           let best = lowest (c .before) words in
           rw (

@@ -35,8 +35,7 @@ add-next c = search needs
 returns : tie.Need-returns
 returns c =
     let l = c .args .l in
-    let long : length (l .active) ≡ 32 = search (needs, long-mapped) in
-    (
+    let long : length (l .active) ≡ 32 = search (needs, long-mapped) in (
       rw (add-one, take-suc-set (l .active) (l .«active_count») (c .args .d) (omega arith)),
       (
         (refl, refl, refl),
