@@ -1,12 +1,13 @@
--- The fewest digits that hold a number are its decimal text.
-use Prim.Native.Nat.{ℕ, zero, suc, _+_, _-_, _*_, _/_, _%_, _^_, _≤_, _<_}
-use mathlib.Core.Path.{_≡_, refl, sym, ap, _∙_}
+-- The fewest digits that hold a number are its decimal text, and 20 hold any of 64 bits.
+use Prim.Native.Nat.{ℕ, zero, suc, _+_, _-_, _/_, _%_, _^_, _≤_, _<_}
+use mathlib.Core.Path.{_≡_, ap}
 use mathlib.Core.List.{List, [], _∷_, _++_}
-use native.Mathlib.Nat.{pow-suc, one-le-pow}
+use native.Mathlib.Nat.{pow-suc, one-le-pow, pow-le-pow-right}
+use native.Mathlib.Decide.{decLt}
 use native.Mathlib.Numerals.{unary-clauses}
 use native.Mathlib.Omega.{arith}
 use borrow.Author.Tests.{le-leb, lt-leb}
-use lib.Dec.{leb, lit<}
+use lib.Dec.{lit<}
 use Rattle.io.specs.Digits.{digits, glyph, Fewest}
 use Rattle.text.specs.Text.{decimalBy, decimal}
 
@@ -27,3 +28,12 @@ decimal-of n zero (least, small, high) = absurd (omega arith)
 decimal-of n (suc k) (least, small, high) =
     let less : suc k - 1 ≡ k = simp unary-clauses in
     by-fuel k (suc n) n small (λ h. rw less at (high (omega (arith, h)))) (omega arith)
+
+pub at-most-20 : (n k : ℕ) → n < 2 ^ 64 → Fewest 10 1 n k → k ≤ 20
+at-most-20 n k h (least, small, high) =
+    elim (decLt k 21) [
+      | yes few ↦ omega arith
+      | no many ↦
+          let most : 10 ^ 20 ≤ 10 ^ (k - 1) = pow-le-pow-right {n = 10} (lit< tt) {i = 20} {j = k - 1} (omega arith) in
+          omega (arith, high (omega arith))
+    ]

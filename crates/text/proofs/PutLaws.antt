@@ -7,9 +7,9 @@ use native.Mathlib.Nat.{add-zero, zero-add, add-assoc, mul-zero, mul-one, mul-ad
 use native.Mathlib.Numerals.{add-one}
 use native.Mathlib.Omega.{arith}
 use lib.ListN.{length, take, drop, getD, set, length-append}
-use lib.Seq.{sets, sets-eq, length-sets, take-suc, take-at, take-length}
+use lib.Seq.{sets, sets-eq, length-sets, take-suc, take-at, take-length, length-take-le}
 use Rattle.sets.proofs.Numbers.{sets-append}
-use Rattle.text.specs.Puts.{Puts}
+use Rattle.text.specs.Puts.{Puts, Begins}
 
 pub puts-none : (s : List ℕ) (i : ℕ) → Puts s i [] s i
 puts-none s i = record { stored = refl; place = sym (add-zero i) }
@@ -30,10 +30,13 @@ pub puts-long : {s t v : List ℕ} {i j : ℕ} → Puts s i v t j → length t �
 puts-long {s} {v} {i} p = ap length (p .stored) ∙ length-sets s i v
 
 -- a buffer begins with the text that was put at its start
-pub begins : {s t v : List ℕ} {j : ℕ} → Puts s 0 v t j → j ≤ length s → (j ≡ length v) × (take j t ≡ v)
-begins {s} {v} {j} p h =
+pub begins : {s t v : List ℕ} {j : ℕ} → Puts s 0 v t j → j ≤ length s → (j ≡ length v) × Begins t j v
+begins {s} {t} {v} {j} p h =
     let size : j ≡ length v = p .place ∙ zero-add (length v) in
-    (size, rw (size, p .stored, sets-eq v s 0 (omega arith)) (take-at v (drop (0 + length v) s) (length v) refl))
+    let fits : j ≤ length t = omega (arith, puts-long p) in
+    let text : take j t ≡ v =
+    rw (size, p .stored, sets-eq v s 0 (omega arith)) (take-at v (drop (0 + length v) s) (length v) refl) in
+    (size, ((fits, sym (length-take-le j t fits)), text))
 
 -- k turns were taken: the text of the first k elements of l stands from place i on, m places each
 pub record Filled (text : List ℕ → List ℕ) (m : ℕ) (l s : List ℕ) (i k : ℕ) (t : List ℕ) : Type 0 where

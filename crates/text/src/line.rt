@@ -1,12 +1,10 @@
 // A line: numbers, then bytes where there are any, or the word `malformed`.
 ghost use mathlib.Core.Path.{_≡_};
-ghost use mathlib.Core.List.{[], _∷_};
-ghost use Prim.Native.Nat.{_+_, _*_, _≤_, _<_};
+ghost use Prim.Native.Nat.{_+_, _*_, _≤_};
 ghost use lib.ListN.{length, take};
 ghost use lib.Seq.{sets};
-ghost use Rattle.io.specs.Counts.{Counts};
 ghost use Rattle.text.specs.Text.{bytesText, lineBody, lineText};
-ghost use Rattle.text.specs.Puts.{Puts};
+ghost use Rattle.text.specs.Puts.{Puts, Begins};
 
 // A blank and the bytes, where there are any.
 fn put_rest(out: &mut [u8], at: usize, bytes: &[u8]) -> usize
@@ -40,8 +38,7 @@ pub fn put_line(out: &mut [u8], numbers: [u64; 4], count: usize, bytes: &[u8]) -
     requires { ⌜ 85 + 2 * length (now bytes) ≤ length (now out) ⌝ }
     ensures { λ r. ⌜ now (out .exit) ≡ sets (now (out .entry)) 0 (lineText (take count numbers) (now (bytes .entry))) ⌝ }
     ensures { λ r. ⌜ r ≡ length (lineText (take count numbers) (now (bytes .entry))) ⌝ }
-    ensures { λ r. ⌜ take r (now (out .exit)) ≡ lineText (take count numbers) (now (bytes .entry)) ⌝ }
-    ensures { λ r. ⌜ Counts r (now (out .exit)) ⌝ }
+    ensures { λ r. ⌜ Begins (now (out .exit)) r (lineText (take count numbers) (now (bytes .entry))) ⌝ }
 {
     let at = put_body(out, numbers, count, bytes);
     out[at] = b'\n';

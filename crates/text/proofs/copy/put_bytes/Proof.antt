@@ -8,8 +8,6 @@ use lib.ListN.{length}
 use Rattle.text.proofs.PutLaws.{Filled, filled-none, filled-next, filled-all}
 use Rattle.text.proofs.copy.put_bytes.Statement.{statement}
 use Rattle.text.proofs.copy.put_bytes.Tie as tie
-use Rattle.text.proofs.copy.put_bytes.Reads as reads
-use Rattle.text.proofs.copy.put_bytes.Lts as lts
 
 abbrev Inv-loop : tie.InvT-loop
 Inv-loop out₀ at bytes i₀ i-end out i = Filled (λ l. l) 1 bytes out₀ at i out
@@ -17,44 +15,34 @@ Inv-loop out₀ at bytes i₀ i-end out i = Filled (λ l. l) 1 bytes out₀ at i
 abbrev μ-loop : tie.MeasureT-loop
 μ-loop out₀ at bytes i₀ i-end out i = length bytes - i
 
--- src/copy.rt:11:5
 loop-holds : tie.Need-loop-holds Inv-loop μ-loop
 loop-holds c = filled-none _ _ _ refl
 
--- src/copy.rt:12:23
 shared-slice-read-out : tie.Need-shared-slice-read-out Inv-loop μ-loop
 shared-slice-read-out c = search needs
 
--- src/copy.rt:12:13
 add-out : tie.Need-add-out Inv-loop μ-loop
 add-out c = search needs
 
--- src/copy.rt:12:9
 slice-write-out : tie.Need-slice-write-out Inv-loop μ-loop
 slice-write-out c = search needs
 
--- src/copy.rt:11:9
 add-i : tie.Need-add-i Inv-loop μ-loop
 add-i c = search needs
 
--- src/copy.rt:11:5
 loop-less : tie.Need-loop-less Inv-loop μ-loop
 loop-less c = search needs
 
--- src/copy.rt:11:5
 loop-again : tie.Need-loop-again Inv-loop μ-loop
 loop-again c =
     filled-next (λ b. b ∷ []) (λ r b. refl) (λ b. refl) (c .before .before .loop .inv) (c .before .loop-test .taken) (rw one-mul)
 
--- src/copy.rt:14:5
 add-result : tie.Need-add-result Inv-loop μ-loop
 add-result c = search needs
 
--- src/copy.rt:7:1
 same-length : tie.Need-same-length Inv-loop μ-loop
 same-length c = search needs
 
--- src/copy.rt:7:1
 returns : tie.Need-returns Inv-loop μ-loop
 returns c = rw one-mul at (filled-all (c .before .loop .inv) (c .loop-test .left))
 

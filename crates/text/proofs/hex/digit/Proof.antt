@@ -3,22 +3,16 @@ use borrow.Author.Tests.{lt-ltb, le-ltb}
 use borrow.Author.Needs.{needs}
 use Rattle.text.proofs.hex.digit.Statement.{statement}
 use Rattle.text.proofs.hex.digit.Tie as tie
-use Rattle.text.proofs.hex.digit.Reads as reads
-use Rattle.text.proofs.hex.digit.Lts as lts
 
--- src/hex.rt:14:17
 add-result : tie.Need-add-result
 add-result c = search needs
 
--- src/hex.rt:14:33
 add-result-2 : tie.Need-add-result-2
 add-result-2 c = search needs
 
--- src/hex.rt:10:1
 returns : tie.Need-returns
 returns c = rw (lt-ltb _ _ (c .if1 .taken))
 
--- src/hex.rt:10:1
 returns-2 : tie.Need-returns-2
 returns-2 c = rw (le-ltb _ _ (c .if1 .left))
 

@@ -9,9 +9,6 @@ use Rattle.text.proofs.PutLaws.{Filled, filled-none, filled-next, fille
 use Rattle.text.proofs.TextLaws.{hex-snoc}
 use Rattle.text.proofs.hex.put_hex.Statement.{statement}
 use Rattle.text.proofs.hex.put_hex.Tie as tie
-use Rattle.text.proofs.hex.put_hex.Reads as reads
-use Rattle.text.proofs.hex.put_hex.Lts as lts
-use Rattle.text.proofs.hex.put_byte.Reads as put-byte-reads
 
 abbrev Inv-loop : tie.InvT-loop
 Inv-loop out₀ at bytes i₀ i-end out i = Filled hexText 2 bytes out₀ at i out
@@ -19,55 +16,43 @@ Inv-loop out₀ at bytes i₀ i-end out i = Filled hexText 2 bytes out₀ at i o
 abbrev μ-loop : tie.MeasureT-loop
 μ-loop out₀ at bytes i₀ i-end out i = length bytes - i
 
--- src/hex.rt:32:5
 loop-holds : tie.Need-loop-holds Inv-loop μ-loop
 unfolding hexText
 loop-holds c = filled-none _ _ _ refl
 
--- src/hex.rt:33:28
 mul-put-byte : tie.Need-mul-put-byte Inv-loop μ-loop
 mul-put-byte c = search needs
 
--- src/hex.rt:33:23
 add-put-byte : tie.Need-add-put-byte Inv-loop μ-loop
 add-put-byte c = search needs
 
--- src/hex.rt:33:35
 shared-slice-read-put-byte : tie.Need-shared-slice-read-put-byte Inv-loop μ-loop
 shared-slice-read-put-byte c = search needs
 
--- src/hex.rt:33:9
 put-byte-requires : tie.Need-put-byte-requires Inv-loop μ-loop
 put-byte-requires c κs = search needs
 
--- src/hex.rt:32:9
 add-i : tie.Need-add-i Inv-loop μ-loop
 add-i c = search needs
 
--- src/hex.rt:32:5
 loop-less : tie.Need-loop-less Inv-loop μ-loop
 loop-less c = search needs
 
--- src/hex.rt:32:5
 loop-again : tie.Need-loop-again Inv-loop μ-loop
 loop-again c =
     let after = c .before .before in
     let turn = after .before .before .before in
     filled-next (digits 16 2) hex-snoc (λ b. refl) (turn .before .loop .inv) (turn .loop-test .taken) (after .put-byte .ensures)
 
--- src/hex.rt:35:10
 mul-result : tie.Need-mul-result Inv-loop μ-loop
 mul-result c = search needs
 
--- src/hex.rt:35:5
 add-result : tie.Need-add-result Inv-loop μ-loop
 add-result c = search needs
 
--- src/hex.rt:27:1
 same-length : tie.Need-same-length Inv-loop μ-loop
 same-length c = search needs
 
--- src/hex.rt:27:1
 returns : tie.Need-returns Inv-loop μ-loop
 returns c = (filled-all (c .before .loop .inv) (c .loop-test .left), refl)
 
