@@ -2,29 +2,21 @@
 use Prim.Native.Nat.{ℕ}
 use mathlib.Core.Path.{subst}
 use mathlib.Core.List.{List, []}
+use borrow.Author.Needs.{needs}
 use Rattle.text.specs.Text.{lineText}
 use Rattle.text.specs.Puts.{Begins}
-use borrow.Author.Needs.{needs}
 use Rattle.cardcheck.proofs.reply.Statement.{statement}
 use Rattle.cardcheck.proofs.reply.Tie as tie
-use Rattle.cardcheck.proofs.reply.Reads as reads
-use Rattle.cardcheck.proofs.reply.Lts as lts
-use Rattle.reading.proofs.check.check.Reads as check-reads
-use Rattle.text.proofs.line.put_line.Reads as put-line-reads
 
--- src/main.rt:14:9
 check-requires : tie.Need-check-requires
 check-requires c κs = search needs
 
--- src/main.rt:16:43
 slice-aggregate-put-line : tie.Need-slice-aggregate-put-line
 slice-aggregate-put-line c = search needs
 
--- src/main.rt:16:5
 put-line-requires : tie.Need-put-line-requires
 put-line-requires c κs = search needs
 
--- src/main.rt:11:1
 returns : tie.Need-returns
 returns c =
     let checked = c .before .before .before in

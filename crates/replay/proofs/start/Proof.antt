@@ -1,119 +1,67 @@
--- `start`: the part that is read into is as long as the size says.
-use mathlib.Core.Path.{sym}
+-- `start`: a card that stands whole is as long as its size says; the empty ledger is sound.
 use borrow.Author.Needs.{needs}
-use lib.Seq.{length-take-le}
+use Rattle.ledger.proofs.Beginning.{empty-sound}
 use Rattle.replay.proofs.start.Statement.{statement}
 use Rattle.replay.proofs.start.Tie as tie
 
-slice-aggregate-read-full : tie.Need-slice-aggregate-read-full
-slice-aggregate-read-full c = search needs
+slice-aggregate-read-part : tie.Need-slice-aggregate-read-part
+slice-aggregate-read-part c = search needs
 
-read-full-requires : tie.Need-read-full-requires
-read-full-requires c κs = search needs
+read-part-requires : tie.Need-read-part-requires
+read-part-requires c κs = search needs
 
-print-malformed-requires : tie.Need-print-malformed-requires
-print-malformed-requires c κs = search needs
+enum-known-part : tie.Need-enum-known-part
+enum-known-part c = search needs
 
 empty-requires : tie.Need-empty-requires
 empty-requires c κs = search needs
 
-returns : tie.Need-returns
-returns c = search needs
-
-slice-aggregate-get2 : tie.Need-slice-aggregate-get2
-slice-aggregate-get2 c = search needs
-
-get2-requires : tie.Need-get2-requires
-get2-requires c κs = search needs
-
-cast-size : tie.Need-cast-size
-cast-size c = search needs
-
-slice-relend-prefix-read-full : tie.Need-slice-relend-prefix-read-full
-slice-relend-prefix-read-full c = search needs
-
-slice-aggregate-read-full-2 : tie.Need-slice-aggregate-read-full-2
-slice-aggregate-read-full-2 c = sym (length-take-le _ _ (search needs))
-
-read-full-requires-2 : tie.Need-read-full-requires-2
-read-full-requires-2 c κs = search needs
-
-print-malformed-requires-2 : tie.Need-print-malformed-requires-2
-print-malformed-requires-2 c κs = search needs
-
-empty-requires-2 : tie.Need-empty-requires-2
-empty-requires-2 c κs = search needs
+put-malformed-requires : tie.Need-put-malformed-requires
+put-malformed-requires c κs = search needs
 
 same-length : tie.Need-same-length
 same-length c = search needs
 
-returns-2 : tie.Need-returns-2
-returns-2 c = search needs
-
-slice-reshare-prefix-read : tie.Need-slice-reshare-prefix-read
-slice-reshare-prefix-read c = search needs
-
-slice-aggregate-read : tie.Need-slice-aggregate-read
-slice-aggregate-read c = sym (length-take-le _ _ (search needs))
-
-read-requires : tie.Need-read-requires
-read-requires c κs = search needs
-
-line-of-requires : tie.Need-line-of-requires
-line-of-requires c κs = search needs
-
-print-decimal-requires : tie.Need-print-decimal-requires
-print-decimal-requires c κs = search needs
-
-print-blank-requires : tie.Need-print-blank-requires
-print-blank-requires c κs = search needs
-
-print-decimal-requires-2 : tie.Need-print-decimal-requires-2
-print-decimal-requires-2 c κs = search needs
-
-print-blank-requires-2 : tie.Need-print-blank-requires-2
-print-blank-requires-2 c κs = search needs
-
-print-decimal-requires-3 : tie.Need-print-decimal-requires-3
-print-decimal-requires-3 c κs = search needs
-
-print-end-requires : tie.Need-print-end-requires
-print-end-requires c κs = search needs
-
 same-length-2 : tie.Need-same-length-2
 same-length-2 c = search needs
 
-returns-3 : tie.Need-returns-3
-returns-3 c = search needs
+returns : tie.Need-returns
+returns c =
+    record { line = c .before .before .put-malformed .ensures .0; sound = rw (c .before .before .before .before .empty .ensures) empty-sound }
+
+slice-reshare-prefix-answer-card : tie.Need-slice-reshare-prefix-answer-card
+slice-reshare-prefix-answer-card c = (rw (c .before .part .given .1) at (c .before .before .before .before .before .before .read-part .ensures)) .0
+
+slice-aggregate-answer-card : tie.Need-slice-aggregate-answer-card
+slice-aggregate-answer-card c = (rw (c .before .before .part .given .1) at (c .before .before .before .before .before .before .before .read-part .ensures)) .1
+
+answer-card-requires : tie.Need-answer-card-requires
+answer-card-requires c κs = search needs
+
+same-length-3 : tie.Need-same-length-3
+same-length-3 c = search needs
+
+same-length-4 : tie.Need-same-length-4
+same-length-4 c = search needs
+
+returns-2 : tie.Need-returns-2
+returns-2 c = search needs
 
 pub start-spec : {M : Type 1} → statement M
 start-spec =
     tie.close
     (tie.spec
-    slice-aggregate-read-full
-    read-full-requires
-    print-malformed-requires
+    slice-aggregate-read-part
+    read-part-requires
+    enum-known-part
     empty-requires
-    returns
-    slice-aggregate-get2
-    get2-requires
-    cast-size
-    slice-relend-prefix-read-full
-    slice-aggregate-read-full-2
-    read-full-requires-2
-    print-malformed-requires-2
-    empty-requires-2
+    put-malformed-requires
     same-length
-    returns-2
-    slice-reshare-prefix-read
-    slice-aggregate-read
-    read-requires
-    line-of-requires
-    print-decimal-requires
-    print-blank-requires
-    print-decimal-requires-2
-    print-blank-requires-2
-    print-decimal-requires-3
-    print-end-requires
     same-length-2
-    returns-3)
+    returns
+    slice-reshare-prefix-answer-card
+    slice-aggregate-answer-card
+    answer-card-requires
+    same-length-3
+    same-length-4
+    returns-2)
