@@ -98,11 +98,12 @@ pub fn answer_entry(l: Ledger, tag: u8, value: &[u8], lent: &mut [u8], out: &mut
 {
     let r = gateway::entry::run_entry(l, tag, value, lent);
     let answer = r.answer;
-    let next = r.ledger;
     let size = put_answer(out, answer, lent);
+    let goes_on = goes_on(answer);
+    let next = r.ledger;
     Turn {
         ledger: next,
         size: size,
-        goes_on: goes_on(answer),
+        goes_on: goes_on,
     }
 }

@@ -24,12 +24,12 @@ returns : tie.Need-returns
 returns c =
     let start = c .before .before .before .before .before .before .before .before .before .before .before .before .before .before in
     let done = c .before .before .before .before .before .before .before .before .before .run-entry .ensures (start .pre .0) in
-    let put = c .before .before .before .put-answer in
+    let put = c .before .before .before .before .put-answer in
     record {
       line = rw (done .answer, done .buffer) at (put .ensures);
       ledger = done .ledger;
       sound = done .sound;
-      goes-on = c .goes-on .ensures ∙ ap goesOn (done .answer);
+      goes-on = c .before .goes-on .ensures ∙ ap goesOn (done .answer);
     }
 
 pub answer-entry-spec : {M : Type 1} → statement M
