@@ -3,7 +3,6 @@ use Prim.Native.Nat.{ℕ}
 use mathlib.Core.Path.{_≡_}
 use mathlib.Core.Bool.{true}
 use mathlib.Core.List.{List, []}
-use Rattle.io.specs.Counts.{Counts}
 use Rattle.model.specs.Model.{Model}
 use Rattle.ledger.specs.State.{view}
 use Rattle.ledger.specs.Sound.{Sound}
@@ -21,11 +20,6 @@ abbrev pub sizeOf : Part → ℕ
 sizeOf Ended = 0
 sizeOf Cut = 0
 sizeOf (Whole n) = n
-
--- The buffer holds a turn's line, and the ledger is sound.
-pub record Ready (t : Turn) (out : List ℕ) : Type 0 where
-  pub line : Counts (t .size) out
-  pub sound : Sound (t .ledger)
 
 -- A card: its line, and the ledger that it gives.
 pub record CardTurn (card : List ℕ) (t : Turn) (out : List ℕ) : Type 0 where
