@@ -1,11 +1,14 @@
 -- `answer::put_answer`: the numbers of the answer's line, and of the lent bytes those of a written card.
 use Prim.Native.Nat.{ℕ}
-use mathlib.Core.Path.{_≡_, refl, sym, ap, _∙_}
+use mathlib.Core.Path.{_≡_, refl, sym, ap, subst, _∙_}
+use mathlib.Core.List.{List}
 use borrow.Author.Needs.{needs}
 use lib.ListN.{take, length-take}
 use lib.Seq.{length-take-le}
 use Rattle.ledger.proofs.CallLaws.{take-held}
 use Rattle.gateway.specs.Entries.{saidOf}
+use Rattle.text.specs.Text.{lineText}
+use Rattle.text.specs.Puts.{Begins}
 use Rattle.replay.specs.Lines.{shownOf}
 use Rattle.replay.proofs.answer.put_answer.Statement.{statement}
 use Rattle.replay.proofs.answer.put_answer.Tie as tie
@@ -36,7 +39,12 @@ returns c =
     ap (λ (n : ℕ). take n lent) (c .before .before .before .before .before .held .ensures)
     ∙ take-held lent _ _ refl
     ∙ ap (λ (n : ℕ). take n lent) (c .before .before .before .before .before .before .written .ensures) in
-    rw (c .before .before .before .before .before .before .before .before .line-of .ensures .numbers, shown) at (c .before .before .put-line .ensures .1 .1)
+    let put = c .before .before .put-line in
+    let line = c .before .before .before .before .before .before .before .before .line-of in
+    subst (λ (ns : List ℕ). Begins (put .last .0) (put .result) (lineText ns (take (shownOf (saidOf (start .args .a))) lent)))
+    (line .ensures .numbers)
+    (subst (λ (bs : List ℕ). Begins (put .last .0) (put .result) (lineText (take (line .result .count) (line .result .numbers)) bs)) shown
+    (put .ensures .1 .1))
 
 pub put-answer-spec : {M : Type 1} → statement M
 put-answer-spec =
