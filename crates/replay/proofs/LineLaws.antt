@@ -1,9 +1,9 @@
 -- The line of a write that succeeds shows the model's card, whatever stood in the lent buffer.
 use Prim.Native.Nat.{ℕ}
-use mathlib.Core.Path.{_≡_, refl}
+use mathlib.Core.Path.{_≡_}
 use mathlib.Core.Bool.{true}
-use mathlib.Core.List.{List, [], _∷_, _++_, append-assoc}
-use lib.ListN.{length, take, drop}
+use mathlib.Core.List.{List, [], _∷_, append-assoc}
+use lib.ListN.{length, take}
 use lib.Seq.{take-append-seam}
 use Rattle.model.specs.Model.{Model}
 use Rattle.model.specs.Answer.{done}

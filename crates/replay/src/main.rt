@@ -27,13 +27,15 @@ fn main() {
         print_malformed(&mut out);
         return;
     };
-    let first = answer::answer_card(&value[..card_size], &mut out);
-    let first_size = first.size;
-    io::write_all(STDOUT_FILENO, &out[..first_size]);
-    let mut l = first.ledger;
+    let mut now = answer::answer_card(&value[..card_size], &mut out);
     let mut head = [0u8; 3];
     let mut turns = u64::MAX;
     while turns > 0 {
+        let size = now.size;
+        io::write_all(STDOUT_FILENO, &out[..size]);
+        if !now.goes_on {
+            return;
+        }
         let entry = input::read_part(&mut head, &mut value);
         if let Part::Cut = entry {
             print_malformed(&mut out);
@@ -42,13 +44,8 @@ fn main() {
         let Part::Whole(n) = entry else {
             return;
         };
-        let turn = answer::answer_entry(l, head[0], &value[..n], &mut lent, &mut out);
-        let size = turn.size;
-        io::write_all(STDOUT_FILENO, &out[..size]);
-        if !turn.goes_on {
-            return;
-        }
-        l = turn.ledger;
+        let l = now.ledger;
+        now = answer::answer_entry(l, head[0], &value[..n], &mut lent, &mut out);
         turns -= 1;
     }
 }
