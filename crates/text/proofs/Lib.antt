@@ -1,0 +1,4 @@
+pub mod PutLaws
+pub mod DecimalLaws
+pub mod TextLaws
+pub mod Examples
