@@ -1,27 +1,26 @@
 -- What the answer to questions 7 to 13 by search says of admit and of commit.
-use Prim.Native.Nat.{ℕ, _<_}
-use mathlib.Core.Path.{_≡_, refl, sym, ap, _∙_}
+use Prim.Native.Nat.{ℕ}
+use mathlib.Core.Path.{_≡_, refl, sym, _∙_}
 use mathlib.Core.Bool.{true, false, not}
 use mathlib.Core.List.{List, [], _∷_}
-use borrow.Author.Tests.{ltb-true, eq-eqb}
+use borrow.Author.Tests.{eq-eqb}
 use lib.ListN.{length}
 use Rattle.sets.specs.Quantifiers.{allIn}
-use Rattle.sets.proofs.Quantifiers.{and-left, and-right}
 use Rattle.drafts.specs.declared.Draft.{Draft}
 use Rattle.drafts.specs.Form.{draftSize, draftOf}
 use Rattle.drafts.proofs.FormLaws.{Widths}
 use Rattle.meaning.specs.Search.{redundantFound}
-use Rattle.meaning.specs.Judgement.{Judgement, meant}
+use Rattle.meaning.specs.Judgement.{meant}
 use Rattle.meaning.specs.Found.{found}
 use Rattle.ledger.specs.declared.answer.DirectiveRefusal.{DirectiveRefusal}
 use Rattle.ledger.specs.declared.answer.DirectiveRefusal.the-variants.{OutOfRange, NotInRegister, NoMinutes, NumberTaken, ListFull, BreaksBaseline, Conflicts}
 use Rattle.model.specs.Model.{Model}
 use Rattle.model.specs.Answer.{Answer, done, accepted}
 use Rattle.ledger.specs.Answer.{directiveAnswer}
-use Rattle.model.specs.Questions.{ask, firstNo, passes, Outcome, outcome, activePlaces, directiveQuestions, draftQuestions}
+use Rattle.model.specs.Questions.{ask, firstNo, Outcome, outcome, directiveQuestions, draftQuestions}
 use Rattle.model.specs.Calls.{drafted, afterCommit, committedBy}
 use Rattle.model.specs.Sound.{SoundModel}
-use Rattle.model.proofs.Questions.{first-accepted, outcome-accepted, outcome-refused, outcome-append}
+use Rattle.model.proofs.Questions.{outcome-accepted, outcome-refused, outcome-append}
 use Rattle.model.proofs.Agree.{questions-agree, sound-searchable}
 
 pub not-accepted : (r : DirectiveRefusal) → accepted (directiveAnswer r) ≡ false

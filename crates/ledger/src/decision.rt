@@ -1,19 +1,8 @@
 // The decision on a query at the clock.
 use crate::Ledger;
 use crate::answer::DecideAnswer;
-use directive::Directive;
 use directive::Query;
-use directive::Request;
-use directive::lowest::Best;
-use register::Register;
-ghost use mathlib.Core.Path.{_≡_};
-ghost use lib.ListN.{take};
-ghost use Rattle.sets.specs.Quantifiers.{keep};
-ghost use Rattle.register.specs.Register.{contents};
-ghost use Rattle.directive.specs.Matching.{matches, requestAt};
-ghost use Rattle.directive.specs.Lowest.{bestOf};
 ghost use Rattle.ledger.specs.Promises.{Decides};
-ghost use Rattle.model.specs.Questions.{isInRange};
 
 pub fn decide(l: Ledger, q: Query) -> DecideAnswer
     ensures { λ a. ⌜ Decides l q a ⌝ }

@@ -1,7 +1,6 @@
 // The bytes of the roles and of a record: ranges, decoding and encoding.
 use crate::Record;
 ghost use mathlib.Core.Path.{_≡_};
-ghost use mathlib.Core.Bool.{_&&_};
 ghost use Prim.Native.Nat.{_+_, _<_, _≤_};
 ghost use lib.ListN.{length};
 ghost use lib.Seq.{sets};

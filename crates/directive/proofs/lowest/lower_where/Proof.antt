@@ -1,6 +1,5 @@
 -- `lowest::lower_where` takes a directive that is the first or of lower number, where the test holds.
-use mathlib.Core.Path.{_≡_, sym, ap, _∙_}
-use mathlib.Core.Bool.{true, false}
+use mathlib.Core.Path.{sym, ap, _∙_}
 use borrow.Author.Tests.{not-true, not-false, lt-ltb, le-ltb}
 use Rattle.sets.proofs.Quantifiers.{both-ways}
 use Rattle.directive.proofs.LowestLaws.{best-kept, best-taken}

@@ -1,5 +1,5 @@
 -- `records::node_of`: past the end of the register there is no record; else the record that was read, and those above it.
-use Prim.Native.Nat.{ℕ, _<_}
+use Prim.Native.Nat.{_<_}
 use mathlib.Core.Path.{_≡_, refl, sym, _∙_}
 use native.Mathlib.Decide.{decLt}
 use native.Mathlib.Omega.{arith}

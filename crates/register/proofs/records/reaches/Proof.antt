@@ -1,5 +1,5 @@
 -- `records::reaches` hands the three tests to `reach_takes`.
-use mathlib.Core.Path.{_≡_, sym, ap, _∙_}
+use mathlib.Core.Path.{_∙_}
 use borrow.Author.Needs.{needs}
 use borrow.Author.Tests.{lt-ltb}
 use lib.ListN.{length, List·getD-map}

@@ -13,7 +13,7 @@ use lib.Dec.{eqb}
 use Rattle.sets.specs.Words.{contains}
 use Rattle.sets.specs.declared.words.Words.{Words}
 use Rattle.register.specs.declared.Record.{Record}
-use Rattle.register.specs.Register.{noRecord, contents}
+use Rattle.register.specs.Register.{noRecord}
 use Rattle.register.specs.Records.{parents, descendant}
 use Rattle.register.specs.Tree.{aboveBy}
 use Rattle.register.proofs.ArrayLaws.{long-mapped}

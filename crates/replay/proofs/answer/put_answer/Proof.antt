@@ -1,11 +1,11 @@
 -- `answer::put_answer`: the numbers of the answer's line, and of the lent bytes those of a written card.
 use Prim.Native.Nat.{ℕ}
-use mathlib.Core.Path.{_≡_, refl, sym, ap, subst, _∙_}
+use mathlib.Core.Path.{_≡_, sym, ap, subst, _∙_}
 use mathlib.Core.List.{List}
 use borrow.Author.Needs.{needs}
 use lib.ListN.{take, length-take}
 use lib.Seq.{length-take-le}
-use Rattle.ledger.proofs.CallLaws.{take-held}
+use Rattle.sets.proofs.Lists.{take-held}
 use Rattle.gateway.specs.Entries.{saidOf}
 use Rattle.text.specs.Text.{lineText}
 use Rattle.text.specs.Puts.{Begins}
@@ -37,7 +37,7 @@ returns c =
     let lent = start .args .lent .now in
     let shown : take (c .before .before .before .before .before .held .result) lent ≡ take (shownOf (saidOf (start .args .a))) lent =
     ap (λ (n : ℕ). take n lent) (c .before .before .before .before .before .held .ensures)
-    ∙ take-held lent _ _ refl
+    ∙ (rw length-take at (take-held (c .before .before .before .before .before .before .written .result) lent))
     ∙ ap (λ (n : ℕ). take n lent) (c .before .before .before .before .before .before .written .ensures) in
     let put = c .before .before .put-line in
     let line = c .before .before .before .before .before .before .before .before .line-of in
