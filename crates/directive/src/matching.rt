@@ -7,6 +7,7 @@ ghost use mathlib.Core.Path.{_≡_};
 ghost use mathlib.Core.List.{List};
 ghost use lib.ListN.{take};
 ghost use Rattle.register.specs.declared.Record.{Record as Held};
+ghost use Rattle.register.specs.Register.{holding};
 ghost use Rattle.register.specs.Nodes.{NodeOf};
 ghost use Rattle.directive.specs.Matching.{subjectCovers, matches};
 
@@ -22,7 +23,7 @@ pub fn subject_covers(s: Subject, parents: &[u8; 16], count: usize, person: u16,
 
 // Whether the directive matches the request, n being the record asked for.
 pub fn matches(parents: &[u8; 16], count: usize, n: Node, d: Directive, q: Request) -> bool
-    ensures { λ b. ⌜ ((rs : List Held) → NodeOf rs (q .«record») n → b ≡ matches (record { roles = take count (now (parents .entry)); records = rs }) d q) ⌝ }
+    ensures { λ b. ⌜ ((rs : List Held) → NodeOf rs (q .«record») n → b ≡ matches (holding (take count (now (parents .entry))) rs) d q) ⌝ }
 {
     if q.minute < d.from {
         return false;

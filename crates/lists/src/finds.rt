@@ -37,8 +37,8 @@ pub fn is_issued(items: [Token; 4], n: usize, number: u16) -> bool
     ensures { λ b. ⌜ b ≡ someIn (λ k. eqb (k .number) number) (take n items) ⌝ }
 {
     for i in 0..n {
-        let k = items[i];
-        if k.number == number {
+        let token = items[i];
+        if token.number == number {
             return true;
         }
     }

@@ -74,21 +74,21 @@ pub fn unexpired(
     ensures { λ r. ⌜ (r .count ≤ n) × (take (r .count) (r .items) ≡ keep (λ d. not (leb (d .until) t)) (take n items)) ⌝ }
     ensures { λ r. ⌜ ((rs : List Held) → SelectionsOf rs items n low high → SelectionsOf rs (r .items) (r .count) (r .low) (r .high)) ⌝ }
 {
-    let mut kept = items;
-    let mut kept_low = low;
-    let mut kept_high = high;
+    let mut left = items;
+    let mut left_low = low;
+    let mut left_high = high;
     let mut at: usize = 0;
     for i in 0..n {
         let d = items[i];
-        kept[at] = d;
-        kept_low[at] = low[i];
-        kept_high[at] = high[i];
+        left[at] = d;
+        left_low[at] = low[i];
+        left_high[at] = high[i];
         at = step(at, t < d.until);
     }
     Directives {
-        items: kept,
-        low: kept_low,
-        high: kept_high,
+        items: left,
+        low: left_low,
+        high: left_high,
         count: at,
     }
 }

@@ -165,10 +165,10 @@ fn directive_draft(edition: u8, v: &[u8]) -> Draft
     requires { ⌜ length (now v) ≡ directiveSize edition ⌝ }
     ensures { λ d. ⌜ d ≡ directiveDraft edition (now (v .entry)) ⌝ }
 {
-    if edition == 1 {
-        return drafts::form::first_edition(v);
+    if edition != 1 {
+        return drafts::form::draft_of(v);
     }
-    drafts::form::draft_of(v)
+    drafts::form::first_edition(v)
 }
 
 fn read_directive(reader: Reader, v: &[u8]) -> Step

@@ -10,12 +10,12 @@ ghost use mathlib.Core.Path.{_≡_};
 ghost use mathlib.Core.Bool.{_&&_, not};
 ghost use mathlib.Core.List.{List};
 ghost use Prim.Native.Nat.{_≤_};
-ghost use lib.ListN.{length, take};
+ghost use lib.ListN.{take};
 ghost use lib.Bits.{bitAnd};
 ghost use lib.Dec.{eqb};
-ghost use Rattle.sets.specs.Words.{wordsOf};
 ghost use Rattle.register.specs.declared.Record.{Record as Held};
-ghost use Rattle.directive.specs.Selection.{selects, SelectionsOf};
+ghost use Rattle.register.specs.Register.{holding};
+ghost use Rattle.directive.specs.Selection.{WordsGiven};
 ghost use Rattle.meaning.specs.Meaning.{redundant};
 ghost use Rattle.meaning.specs.Search.{redundantFound, Fit};
 ghost use Rattle.redundancy.specs.Masks.{allCovered};
@@ -113,8 +113,8 @@ pub fn is_redundant(
     low: &[u64; 32],
     high: &[u64; 32],
 ) -> bool
-    ensures { λ b. ⌜ ((rs : List Held) → length rs ≤ 128 → chosen ≡ wordsOf (selects rs d) → SelectionsOf rs active n (now (low .entry)) (now (high .entry)) → b ≡ redundantFound (record { roles = take count (now (parents .entry)); records = rs }) clock d (take n active)) ⌝ }
-    ensures { λ b. ⌜ ((rs : List Held) → length rs ≤ 128 → chosen ≡ wordsOf (selects rs d) → SelectionsOf rs active n (now (low .entry)) (now (high .entry)) → Fit (record { roles = take count (now (parents .entry)); records = rs }) d → b ≡ redundant (record { roles = take count (now (parents .entry)); records = rs }) clock d (take n active)) ⌝ }
+    ensures { λ b. ⌜ ((rs : List Held) → WordsGiven rs d chosen active n (now (low .entry)) (now (high .entry)) → b ≡ redundantFound (holding (take count (now (parents .entry))) rs) clock d (take n active)) ⌝ }
+    ensures { λ b. ⌜ ((rs : List Held) → WordsGiven rs d chosen active n (now (low .entry)) (now (high .entry)) → Fit (holding (take count (now (parents .entry))) rs) d → b ≡ redundant (holding (take count (now (parents .entry))) rs) clock d (take n active)) ⌝ }
 {
     let rows = rows_of(parents, count, d, active, n, low, high);
     let row_low = rows.low;

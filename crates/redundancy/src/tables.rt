@@ -12,6 +12,7 @@ ghost use Rattle.sets.specs.Quantifiers.{oneIf};
 ghost use Rattle.sets.specs.Bits.{setOf};
 ghost use Rattle.sets.specs.Words.{wordsOf};
 ghost use Rattle.register.specs.declared.Record.{Record as Held};
+ghost use Rattle.register.specs.Register.{holding};
 ghost use Rattle.directive.specs.Selection.{selects, SelectionsOf};
 ghost use Rattle.meaning.specs.Search.{standsFor};
 ghost use Rattle.redundancy.specs.Masks.{roleRow, recordRow, column, recordColumn, minuteColumn, RowsOf, MinutesOf};
@@ -89,7 +90,7 @@ pub fn rows_of(
     low: &[u64; 32],
     high: &[u64; 32],
 ) -> Rows
-    ensures { λ r. ⌜ ((rs : List Held) → SelectionsOf rs active n (now (low .entry)) (now (high .entry)) → RowsOf (record { roles = take count (now (parents .entry)); records = rs }) d active n r) ⌝ }
+    ensures { λ r. ⌜ ((rs : List Held) → SelectionsOf rs active n (now (low .entry)) (now (high .entry)) → RowsOf (holding (take count (now (parents .entry))) rs) d active n r) ⌝ }
 {
     let none = [0u64; 32];
     let mut rows = Rows {

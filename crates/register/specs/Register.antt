@@ -10,9 +10,12 @@ pub record Contents : Type 0 where
   pub roles : List ℕ
   pub records : List Record
 
+-- these roles and these records
+abbrev pub holding : List ℕ → List Record → Contents
+holding roles records = record { roles = roles; records = records }
+
 abbrev pub contents : Register → Contents
-contents g =
-    record { roles = take (g .«role_count») (g .roles); records = take (g .«record_count») (g .records) }
+contents g = holding (take (g .«role_count») (g .roles)) (take (g .«record_count») (g .records))
 
 -- what stands where there is no record
 abbrev pub noRecord : Record

@@ -11,8 +11,8 @@ ghost use lib.ListN.{length, take};
 ghost use Rattle.sets.specs.Quantifiers.{keep};
 ghost use Rattle.sets.specs.Words.{wordsOf};
 ghost use Rattle.register.specs.declared.Record.{Record as Held};
-ghost use Rattle.register.specs.Register.{contents};
-ghost use Rattle.directive.specs.Selection.{selects, SelectionsOf};
+ghost use Rattle.register.specs.Register.{holding, contents};
+ghost use Rattle.directive.specs.Selection.{selects, WordsGiven};
 ghost use Rattle.directive.specs.Lowest.{bestOf};
 ghost use Rattle.meaning.specs.Meaning.{conflict};
 ghost use Rattle.meaning.specs.Search.{subjectsMeet, conflictFound, Fit};
@@ -44,7 +44,7 @@ pub fn conflicts_over(
     e: Directive,
     other: Words,
 ) -> bool
-    ensures { λ b. ⌜ ((rs : List Held) → length rs ≤ 128 → chosen ≡ wordsOf (selects rs d) → other ≡ wordsOf (selects rs e) → b ≡ conflictFound (record { roles = take count (now (parents .entry)); records = rs }) clock d e) ⌝ }
+    ensures { λ b. ⌜ ((rs : List Held) → length rs ≤ 128 → chosen ≡ wordsOf (selects rs d) → other ≡ wordsOf (selects rs e) → b ≡ conflictFound (holding (take count (now (parents .entry))) rs) clock d e) ⌝ }
 {
     if d.permit == e.permit {
         return false;
@@ -95,8 +95,8 @@ pub fn lowest_conflict(
     low: &[u64; 32],
     high: &[u64; 32],
 ) -> Best
-    ensures { λ r. ⌜ ((rs : List Held) → length rs ≤ 128 → chosen ≡ wordsOf (selects rs d) → SelectionsOf rs active n (now (low .entry)) (now (high .entry)) → r ≡ bestOf (keep (conflictFound (record { roles = take count (now (parents .entry)); records = rs }) clock d) (take n active))) ⌝ }
-    ensures { λ r. ⌜ ((rs : List Held) → length rs ≤ 128 → chosen ≡ wordsOf (selects rs d) → SelectionsOf rs active n (now (low .entry)) (now (high .entry)) → 0 < length (take count (now (parents .entry))) → Fit (record { roles = take count (now (parents .entry)); records = rs }) d → AllFit (record { roles = take count (now (parents .entry)); records = rs }) (take n active) → r ≡ bestOf (keep (conflict (record { roles = take count (now (parents .entry)); records = rs }) clock d) (take n active))) ⌝ }
+    ensures { λ r. ⌜ ((rs : List Held) → WordsGiven rs d chosen active n (now (low .entry)) (now (high .entry)) → r ≡ bestOf (keep (conflictFound (holding (take count (now (parents .entry))) rs) clock d) (take n active))) ⌝ }
+    ensures { λ r. ⌜ ((rs : List Held) → WordsGiven rs d chosen active n (now (low .entry)) (now (high .entry)) → 0 < length (take count (now (parents .entry))) → Fit (holding (take count (now (parents .entry))) rs) d → AllFit (holding (take count (now (parents .entry))) rs) (take n active) → r ≡ bestOf (keep (conflict (holding (take count (now (parents .entry))) rs) clock d) (take n active))) ⌝ }
 {
     let mut best = directive::lowest::nothing();
     for i in 0..32usize {

@@ -187,8 +187,8 @@ lowest c words =
     let start = held .before .before .before .before .before .before .before .before .before in
     let p = past held in
     rw (p .written, p .all) at
-    (c .lowest-conflict .ensures .0 (view (start .args .l) .register .records) (few start) (start .pre .1)
-    (selections-fewer words (held .held .result) (omega arith)))
+    (c .lowest-conflict .ensures .0 (view (start .args .l) .register .records)
+    (record { few = few start; own = start .pre .1; others = selections-fewer words (held .held .result) (omega arith) }))
 
 returns-7 : tie.Need-returns-7
 unfolding directiveQuestions firstNo

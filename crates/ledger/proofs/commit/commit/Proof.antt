@@ -102,7 +102,8 @@ repeats c words =
     let meaning = chosen .before .before in
     let start = meaning .before .before .before .before in
     rw (meaning .directive-of .ensures, meaning .before .draft-of .ensures) at
-    (c .is-redundant .ensures .0 (view (start .args .l) .register .records) (few start) (chosen .selected .ensures) words)
+    (c .is-redundant .ensures .0 (view (start .args .l) .register .records)
+    (record { few = few start; own = chosen .selected .ensures; others = words }))
 
 returns-2 : tie.Need-returns-2
 unfolding firstNo allIn

@@ -18,11 +18,11 @@ abbrev μ-loop : tie.MeasureT-loop
 loop-holds : tie.Need-loop-holds Inv-loop μ-loop
 loop-holds c = sought-none _ (search needs)
 
-mul-k : tie.Need-mul-k Inv-loop μ-loop
-mul-k c = search needs
+mul-token : tie.Need-mul-token Inv-loop μ-loop
+mul-token c = search needs
 
-array-copy-out-k : tie.Need-array-copy-out-k Inv-loop μ-loop
-array-copy-out-k c = search needs
+array-copy-out-token : tie.Need-array-copy-out-token Inv-loop μ-loop
+array-copy-out-token c = search needs
 
 returns : tie.Need-returns Inv-loop μ-loop
 unfolding someIn
@@ -53,8 +53,8 @@ is-issued-spec =
     Inv-loop
     μ-loop
     loop-holds
-    mul-k
-    array-copy-out-k
+    mul-token
+    array-copy-out-token
     returns
     add-i
     loop-less

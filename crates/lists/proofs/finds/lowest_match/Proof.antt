@@ -5,6 +5,7 @@ use mathlib.Core.List.{List}
 use borrow.Author.Needs.{needs}
 use lib.ListN.{length, take}
 use Rattle.register.specs.declared.Record.{Record}
+use Rattle.register.specs.Register.{holding}
 use Rattle.register.specs.Nodes.{NodeOf}
 use Rattle.register.proofs.ArrayLaws.{long-mapped}
 use Rattle.directive.specs.Matching.{matches}
@@ -15,7 +16,7 @@ use Rattle.lists.proofs.finds.lowest_match.Tie as tie
 abbrev Inv-loop : tie.InvT-loop
 Inv-loop n q active parents count asked best₀ i₀ best i =
     (rs : List Record) → NodeOf rs (q .«record») asked →
-    Met (λ d. matches (record { roles = take count parents; records = rs }) d q) active n best i
+    Met (λ d. matches (holding (take count parents) rs) d q) active n best i
 
 abbrev μ-loop : tie.MeasureT-loop
 μ-loop n q active parents count asked best₀ i₀ best i = 32 - i

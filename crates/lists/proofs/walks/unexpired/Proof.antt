@@ -9,11 +9,11 @@ use Rattle.lists.proofs.walks.unexpired.Statement.{statement}
 use Rattle.lists.proofs.walks.unexpired.Tie as tie
 
 abbrev Inv-loop : tie.InvT-loop
-Inv-loop n t items low high kept₀ kept-low₀ kept-high₀ at₀ i₀ kept kept-low kept-high at i =
-    Carried (λ d. not (leb (d .until) t)) items low high n kept kept-low kept-high at i
+Inv-loop n t items low high left₀ left-low₀ left-high₀ at₀ i₀ left left-low left-high at i =
+    Carried (λ d. not (leb (d .until) t)) items low high n left left-low left-high at i
 
 abbrev μ-loop : tie.MeasureT-loop
-μ-loop n t items low high kept₀ kept-low₀ kept-high₀ at₀ i₀ kept kept-low kept-high at i = n - i
+μ-loop n t items low high left₀ left-low₀ left-high₀ at₀ i₀ left left-low left-high at i = n - i
 
 loop-holds : tie.Need-loop-holds Inv-loop μ-loop
 loop-holds c = carried-none _ (c .args .t1) (c .args .t2) (c .args .t3) (c .args .n) (search needs) (search needs) (search needs)
@@ -24,35 +24,35 @@ mul-d c = search needs
 array-copy-out-d : tie.Need-array-copy-out-d Inv-loop μ-loop
 array-copy-out-d c = search needs
 
-mul-kept : tie.Need-mul-kept Inv-loop μ-loop
-mul-kept c = search needs
+mul-left : tie.Need-mul-left Inv-loop μ-loop
+mul-left c = search needs
 
-array-set-from-kept : tie.Need-array-set-from-kept Inv-loop μ-loop
-array-set-from-kept c = search needs
+array-set-from-left : tie.Need-array-set-from-left Inv-loop μ-loop
+array-set-from-left c = search needs
 
-mul-kept-low : tie.Need-mul-kept-low Inv-loop μ-loop
-mul-kept-low c = search needs
+mul-left-low : tie.Need-mul-left-low Inv-loop μ-loop
+mul-left-low c = search needs
 
-array-read-kept-low : tie.Need-array-read-kept-low Inv-loop μ-loop
-array-read-kept-low c = search needs
+array-read-left-low : tie.Need-array-read-left-low Inv-loop μ-loop
+array-read-left-low c = search needs
 
-mul-kept-low-2 : tie.Need-mul-kept-low-2 Inv-loop μ-loop
-mul-kept-low-2 c = search needs
+mul-left-low-2 : tie.Need-mul-left-low-2 Inv-loop μ-loop
+mul-left-low-2 c = search needs
 
-array-write-kept-low : tie.Need-array-write-kept-low Inv-loop μ-loop
-array-write-kept-low c = search needs
+array-write-left-low : tie.Need-array-write-left-low Inv-loop μ-loop
+array-write-left-low c = search needs
 
-mul-kept-high : tie.Need-mul-kept-high Inv-loop μ-loop
-mul-kept-high c = search needs
+mul-left-high : tie.Need-mul-left-high Inv-loop μ-loop
+mul-left-high c = search needs
 
-array-read-kept-high : tie.Need-array-read-kept-high Inv-loop μ-loop
-array-read-kept-high c = search needs
+array-read-left-high : tie.Need-array-read-left-high Inv-loop μ-loop
+array-read-left-high c = search needs
 
-mul-kept-high-2 : tie.Need-mul-kept-high-2 Inv-loop μ-loop
-mul-kept-high-2 c = search needs
+mul-left-high-2 : tie.Need-mul-left-high-2 Inv-loop μ-loop
+mul-left-high-2 c = search needs
 
-array-write-kept-high : tie.Need-array-write-kept-high Inv-loop μ-loop
-array-write-kept-high c = search needs
+array-write-left-high : tie.Need-array-write-left-high Inv-loop μ-loop
+array-write-left-high c = search needs
 
 step-requires : tie.Need-step-requires Inv-loop μ-loop
 step-requires c κs = search needs
@@ -81,16 +81,16 @@ unexpired-spec =
     loop-holds
     mul-d
     array-copy-out-d
-    mul-kept
-    array-set-from-kept
-    mul-kept-low
-    array-read-kept-low
-    mul-kept-low-2
-    array-write-kept-low
-    mul-kept-high
-    array-read-kept-high
-    mul-kept-high-2
-    array-write-kept-high
+    mul-left
+    array-set-from-left
+    mul-left-low
+    array-read-left-low
+    mul-left-low-2
+    array-write-left-low
+    mul-left-high
+    array-read-left-high
+    mul-left-high-2
+    array-write-left-high
     step-requires
     add-i
     loop-less

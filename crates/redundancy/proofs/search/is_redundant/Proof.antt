@@ -1,14 +1,13 @@
 -- `redundancy::is_redundant` searches the tables, and so finds what is meant.
-use Prim.Native.Nat.{_≤_}
 use mathlib.Core.Path.{_≡_, sym, _∙_}
 use mathlib.Core.List.{List}
 use native.Mathlib.Omega.{arith}
 use borrow.Author.Needs.{needs}
 use lib.ListN.{length, take, length-take}
-use Rattle.sets.specs.Words.{wordsOf}
 use Rattle.register.specs.declared.Record.{Record}
+use Rattle.register.specs.Register.{holding}
 use Rattle.register.proofs.ArrayLaws.{long-mapped}
-use Rattle.directive.specs.Selection.{selects, SelectionsOf}
+use Rattle.directive.specs.Selection.{WordsGiven}
 use Rattle.meaning.specs.Search.{redundantFound}
 use Rattle.meaning.proofs.Exact.{redundant-exact}
 use Rattle.redundancy.proofs.TableLaws.{tables-found}
@@ -51,24 +50,23 @@ returns c =
     let args = rows .before .args in
     let full = long (rows .before) in
     let found :
-    (rs : List Record) → length rs ≤ 128 → args .chosen ≡ wordsOf (selects rs (args .d)) →
-    SelectionsOf rs (args .active) (args .n) (args .low .now) (args .high .now) →
+    (rs : List Record) → WordsGiven rs (args .d) (args .chosen) (args .active) (args .n) (args .low .now) (args .high .now) →
     c .all-covered .result
-    ≡ redundantFound (record { roles = take (args .count) (args .parents .now); records = rs }) (args .clock) (args .d)
+    ≡ redundantFound (holding (take (args .count) (args .parents .now)) rs) (args .clock) (args .d)
     (take (args .n) (args .active)) =
-    λ rs few is-chosen are.
-    tables-found (record { roles = take (args .count) (args .parents .now); records = rs })
-    (args .clock) (args .d) (args .active) (args .n) full few (standing .standing-roles .ensures .1)
-    (rows .rows-of .result) (rows .rows-of .ensures rs are)
+    λ rs given.
+    tables-found (holding (take (args .count) (args .parents .now)) rs)
+    (args .clock) (args .d) (args .active) (args .n) full (given .few) (standing .standing-roles .ensures .1)
+    (rows .rows-of .result) (rows .rows-of .ensures rs (given .others))
     (origins .columns .result) (purposes .columns2 .result) (roles .columns3 .result)
     (origins .columns .ensures) (purposes .columns2 .ensures) (roles .columns3 .ensures)
     (args .chosen) (standing .standing-roles .result) (minutes .minutes-of .result)
-    is-chosen (standing .standing-roles .ensures .0) (minutes .minutes-of .ensures)
+    (given .own) (standing .standing-roles .ensures .0) (minutes .minutes-of .ensures)
     (c .all-covered .ensures)
     in (
       found,
-      λ rs few is-chosen are fit.
-          found rs few is-chosen are
+      λ rs given fit.
+          found rs given
           ∙ sym
           (redundant-exact _ (args .clock) (args .d) (take (args .n) (args .active)) fit (simp length-take (omega arith))),
     )
