@@ -2,7 +2,7 @@
 use Prim.Native.Nat.{ℕ, zero, suc, _+_, _*_, _<_, _≤_}
 use mathlib.Core.Path.{_≡_, refl, _∙_}
 use mathlib.Core.Bool.{true}
-use mathlib.Core.List.{List, [], _∷_, _++_, append-assoc, append-nil}
+use mathlib.Core.List.{List, _++_}
 use native.Mathlib.Omega.{arith}
 use borrow.Author.Tests.{ltb-true, lt-ltb, eqb-true}
 use lib.ListN.{length, length-append}

@@ -27,6 +27,14 @@ puts-one s i b = record { stored = refl; place = refl }
 pub puts-long : {s t v : List ℕ} {i j : ℕ} → Puts s i v t j → length t ≡ length s
 puts-long {s} {v} {i} p = ap length (p .stored) ∙ length-sets s i v
 
+-- the elements of a list, m places each
+pub puts-all :
+    {A : Type 0} {fields : List A → List ℕ} {m : ℕ} {l : List A} {s t : List ℕ} {i k : ℕ} →
+    Filled fields m l (length l) s i k t → length l ≤ k → Puts s i (fields l) t (i + m * length l)
+puts-all p h =
+    let all = rw take-length at (filled-all p h) in
+    record { stored = all .stored; place = rw (all .long) }
+
 -- a buffer begins with the text that was put at its start
 pub begins : {s t v : List ℕ} {j : ℕ} → Puts s 0 v t j → j ≤ length s → (j ≡ length v) × Begins t j v
 begins {s} {t} {v} {j} p h =
@@ -35,11 +43,3 @@ begins {s} {t} {v} {j} p h =
     let text : take j t ≡ v =
     rw (size, p .stored, sets-eq v s 0 (omega arith)) (take-at v (drop (0 + length v) s) (length v) refl) in
     (size, ((fits, sym (length-take-le j t fits)), text))
-
--- the elements of a list, m places each
-pub puts-all :
-    {A : Type 0} {fields : List A → List ℕ} {m : ℕ} {l : List A} {s t : List ℕ} {i k : ℕ} →
-    Filled fields m l (length l) s i k t → length l ≤ k → Puts s i (fields l) t (i + m * length l)
-puts-all p h =
-    let all = rw take-length at (filled-all p h) in
-    record { stored = all .stored; place = rw (all .long) }

@@ -1,15 +1,14 @@
 -- Laws of writing a card field by field: what is written after what stands before it.
 use Prim.Native.Nat.{ℕ, _+_, _*_, _<_, _≤_}
-use mathlib.Core.Path.{_≡_, refl, _∙_}
+use mathlib.Core.Path.{_≡_, _∙_}
 use mathlib.Core.Bool.{true}
 use mathlib.Core.List.{List, _∷_}
 use native.Mathlib.Nat.{zero-add}
-use native.Mathlib.Numerals.{add-one}
 use native.Mathlib.Omega.{arith}
 use borrow.Author.Tests.{eq-eqb, ne-eqb, le-leb, lt-leb}
 use lib.Dec.{leb}
-use lib.ListN.{length, take, getD}
-use lib.Seq.{sets, sets-eq, length-take-le, length-sets, take-suc}
+use lib.ListN.{length}
+use lib.Seq.{sets, sets-eq}
 use Rattle.sets.specs.Quantifiers.{allIn}
 use Rattle.sets.specs.Numbers.{bytes}
 use Rattle.sets.proofs.Numbers.{length-bytes}
