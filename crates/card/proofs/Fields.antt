@@ -12,8 +12,7 @@ use lib.Dec.{leb}
 use Rattle.sets.specs.Numbers.{bytes, isBytes}
 use Rattle.sets.proofs.Quantifiers.{and-left, and-right}
 use Rattle.sets.proofs.Lists.{all-take, all-drop}
-use Rattle.sets.proofs.Numbers.{length-bytes, number-of-bytes}
-use Rattle.register.proofs.FieldLaws.{bytes-next}
+use Rattle.sets.proofs.Numbers.{length-bytes, number-of-bytes, bytes-next}
 use Rattle.card.specs.Grammar.{field, valueSize, fieldValue, afterField, standsWhole}
 
 pub length-field : (tag : ℕ) (v : List ℕ) → length (field tag v) ≡ 3 + length v

@@ -10,8 +10,7 @@ use lib.Seq.{take-all}
 use Rattle.sets.specs.Bits.{inBits}
 use Rattle.sets.specs.Numbers.{numberFrom, bytes, isBytes}
 use Rattle.sets.proofs.Lists.{all-append}
-use Rattle.sets.proofs.Numbers.{length-bytes, bytes-are-bytes, number-of-bytes}
-use Rattle.register.proofs.FieldLaws.{bytes-next}
+use Rattle.sets.proofs.Numbers.{length-bytes, bytes-are-bytes, number-of-bytes, bytes-next}
 use Rattle.card.specs.declared.form.Head.{Head}
 use Rattle.card.specs.Form.{headSize, headOf, headBytes}
 

@@ -12,6 +12,7 @@ use Rattle.sets.specs.Quantifiers.{allIn}
 use Rattle.sets.specs.Numbers.{numberAt}
 use Rattle.sets.proofs.Quantifiers.{and-left, and-right, every-below, every-list}
 use Rattle.sets.proofs.Lists.{apart-before, some-alike}
+use Rattle.sets.proofs.PutLaws.{OneEach}
 use Rattle.register.specs.declared.Record.{Record}
 use Rattle.register.specs.Register.{noRecord}
 use Rattle.register.specs.Records.{recordAt}
@@ -34,7 +35,7 @@ use Rattle.card.proofs.FormLaws.{length-head, head-decode-encode}
 use Rattle.card.proofs.Fields.{size-written, value-written, after-written, whole-written}
 use Rattle.card.proofs.Accepted.{Accepted, ended, one-more}
 use Rattle.card.proofs.ReadSound.{filled}
-use Rattle.card.proofs.Written.{OneEach, one-a-record, one-a-directive}
+use Rattle.card.proofs.Written.{one-a-record, one-a-directive}
 
 -- a field that is written passes where its value does
 accept-field :

@@ -11,6 +11,7 @@ use Rattle.sets.specs.Quantifiers.{pick, allIn}
 use Rattle.sets.specs.Numbers.{numberAt, isBytes}
 use Rattle.sets.proofs.Quantifiers.{both-ways, and-left, and-right}
 use Rattle.sets.proofs.Lists.{none-in}
+use Rattle.sets.proofs.PutLaws.{fields-snoc}
 use Rattle.register.specs.Form.{recordSize, recordOf}
 use Rattle.register.proofs.FormLaws.{record-encode-decode}
 use Rattle.drafts.specs.Form.{draftSize, draftOf, keepsRanges, directiveOf}
@@ -25,7 +26,7 @@ use Rattle.card.proofs.FormLaws.{head-encode-decode}
 use Rattle.card.proofs.Fields.{value-bytes, after-bytes, field-parts}
 use Rattle.card.proofs.Accepted.{Accepted, ended, one-more, passed-of, accepted-end}
 use Rattle.card.proofs.ReadSound.{SoundSoFar, nothing-sound, filled, no-records, no-directives, edition-read, sound-field}
-use Rattle.card.proofs.Written.{one-a-record, one-a-directive, fields-snoc}
+use Rattle.card.proofs.Written.{one-a-record, one-a-directive}
 
 -- the tag byte b, known by its tag
 tagByte : ℕ → Tag → ℕ

@@ -2,7 +2,7 @@
 use Prim.Native.Nat.{ℕ, zero, suc, _+_, _*_, _<_, _≤_}
 use mathlib.Core.Path.{_≡_, refl, _∙_}
 use mathlib.Core.Bool.{true}
-use mathlib.Core.List.{List, [], _∷_, _++_, append-assoc, append-nil}
+use mathlib.Core.List.{List, _++_}
 use native.Mathlib.Omega.{arith}
 use borrow.Author.Tests.{ltb-true, lt-ltb, eqb-true}
 use lib.ListN.{length, length-append}
@@ -12,6 +12,7 @@ use Rattle.sets.specs.Numbers.{isBytes}
 use Rattle.sets.proofs.Quantifiers.{every-below}
 use Rattle.sets.proofs.Lists.{all-append, all-places}
 use Rattle.sets.proofs.Numbers.{bytes-are-bytes}
+use Rattle.sets.proofs.PutLaws.{OneEach, fields-length, fields-bytes}
 use Rattle.register.specs.Tree.{parentOf, parentFits, isTree}
 use Rattle.register.specs.declared.Record.{Record}
 use Rattle.register.specs.Form.{recordBytes}
@@ -32,10 +33,6 @@ unfolding allIn
 field-bytes tag v small e = rw (lt-ltb tag 256 small, all-append, bytes-are-bytes, e)
 
 -- one field for each of a list
-pub record OneEach {A : Type 0} (fields : List A → List ℕ) (oneIf : A → List ℕ) : Type 0 where
-  pub none : fields [] ≡ []
-  pub more : (a : A) (l : List A) → fields (a ∷ l) ≡ oneIf a ++ fields l
-
 pub one-a-record : OneEach recordFields (λ r. field 0x03 (recordBytes r))
 unfolding recordFields
 one-a-record = record { none = refl; more = λ r rs. refl }
@@ -43,23 +40,6 @@ one-a-record = record { none = refl; more = λ r rs. refl }
 pub one-a-directive : OneEach directiveFields (λ d. field 0x04 (directiveBytes d))
 unfolding directiveFields
 one-a-directive = record { none = refl; more = λ d ds. refl }
-
-pub one-a-byte : OneEach {A = ℕ} (λ l. l) (λ b. b ∷ [])
-one-a-byte = record { none = refl; more = λ b l. refl }
-
-module _ {A : Type 0} {fields : List A → List ℕ} {oneIf : A → List ℕ} (each : OneEach fields oneIf) where
-  pub fields-snoc : (l : List A) (a : A) → fields (l ++ (a ∷ [])) ≡ fields l ++ oneIf a
-  fields-snoc [] a = rw (each .more, each .none, append-nil)
-  fields-snoc (x ∷ l) a = rw (each .more x (l ++ (a ∷ [])), each .more x l, fields-snoc l a, append-assoc)
-
-  pub fields-length : (n : ℕ) → ((a : A) → length (oneIf a) ≡ n) → (l : List A) → length (fields l) ≡ n * length l
-  fields-length n f [] = rw (each .none) (omega arith)
-  fields-length n f (a ∷ l) = rw (each .more, length-append, f a, fields-length n f l) (omega arith)
-
-  fields-bytes : ((a : A) → isBytes (oneIf a) ≡ true) → (l : List A) → isBytes (fields l) ≡ true
-  unfolding allIn
-  fields-bytes f [] = rw (each .none)
-  fields-bytes f (a ∷ l) = rw (each .more, all-append, f a, fields-bytes f l)
 
 -- a role's parent is a byte
 parent-byte : (q p : ℕ) → parentFits q p ≡ true → q < 256 → p < 256

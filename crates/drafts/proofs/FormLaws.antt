@@ -17,9 +17,8 @@ use Rattle.sets.specs.Numbers.{numberFrom, numberAt, bytes, isBytes}
 use Rattle.sets.proofs.Quantifiers.{same-test, and-both}
 use Rattle.sets.proofs.Lists.{all-append}
 use Rattle.sets.proofs.BitLaws.{subset-and}
-use Rattle.sets.proofs.Numbers.{length-bytes, bytes-are-bytes, number-of-bytes, number-at-bound}
+use Rattle.sets.proofs.Numbers.{length-bytes, bytes-are-bytes, number-of-bytes, number-at-bound, bytes-next}
 use Rattle.register.specs.Records.{lastReach}
-use Rattle.register.proofs.FieldLaws.{bytes-next}
 use Rattle.directive.specs.declared.Subject.{Subject}
 use Rattle.directive.specs.declared.Subject.the-variants.{Person, Role}
 use Rattle.directive.specs.declared.Directive.{Directive}

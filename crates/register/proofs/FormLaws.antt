@@ -11,10 +11,9 @@ use Rattle.sets.specs.Bits.{inBits}
 use Rattle.sets.specs.Numbers.{numberFrom, bytes, isBytes}
 use Rattle.sets.proofs.Quantifiers.{and-both}
 use Rattle.sets.proofs.Lists.{all-append}
-use Rattle.sets.proofs.Numbers.{length-bytes, bytes-are-bytes, number-of-bytes, number-at-bound}
+use Rattle.sets.proofs.Numbers.{length-bytes, bytes-are-bytes, number-of-bytes, number-at-bound, bytes-next}
 use Rattle.register.specs.declared.Record.{Record}
 use Rattle.register.specs.Form.{recordSize, recordOf, recordBytes, recordWidths}
-use Rattle.register.proofs.FieldLaws.{bytes-next}
 
 pub length-record : (r : Record) → length (recordBytes r) ≡ recordSize
 unfolding recordBytes

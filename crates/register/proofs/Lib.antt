@@ -4,5 +4,4 @@ pub mod ReachLaws
 pub mod ArrayLaws
 pub mod RecordLaws
 pub mod CallLaws
-pub mod FieldLaws
 pub mod FormLaws

@@ -6,3 +6,4 @@ pub mod BitLaws
 pub mod WordLaws
 pub mod FillLaws
 pub mod Numbers
+pub mod PutLaws

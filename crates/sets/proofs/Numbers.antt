@@ -9,8 +9,8 @@ use native.Mathlib.Omega.{arith}
 use borrow.Author.Tests.{ltb-true, lt-ltb}
 use lib.Dec.{ltb, lit<}
 use lib.Arith.{digits-div, digits-mod}
-use lib.ListN.{length, getD, set, take, drop, length-append, length-take, length-drop}
-use lib.Seq.{sets, drop-cons, append-snoc, take-append-le, drop-append-le, drop-append-add}
+use lib.ListN.{length, getD, take, drop, length-append, length-take, length-drop}
+use lib.Seq.{drop-cons, append-snoc, take-append-le, drop-append-le, drop-append-add, length-take-le, take-add}
 use Rattle.sets.specs.Quantifiers.{allIn}
 use Rattle.sets.specs.Numbers.{numberFrom, number, numberAt, bytes, isBytes}
 use Rattle.sets.proofs.Quantifiers.{and-both}
@@ -95,9 +95,13 @@ pub number-first :
     numberAt i (suc n) s ≡ numberFrom (getD s i 0) (take n (drop j s))
 number-first i j n s h e = number-next 0 i j n s h e ∙ ap (λ (a : ℕ). numberFrom a (take n (drop j s))) (zero-add (getD s i 0))
 
--- a run of stores after a run of stores
-pub sets-append :
-    {A : Type 0} (l : List A) (i : ℕ) (vs ws : List A) →
-    sets (sets l i vs) (i + length vs) ws ≡ sets l i (vs ++ ws)
-sets-append l i [] ws = rw add-zero
-sets-append l i (v ∷ vs) ws = rw (add-suc, ← (suc-add i (length vs))) (sets-append (set l i v) (suc i) vs ws)
+-- b is the first n bytes of s: the number of the k bytes after them writes these
+pub bytes-next :
+    (s : List ℕ) (n k : ℕ) (b : List ℕ) → isBytes s ≡ true → n + k ≤ length s →
+    b ≡ take n s → b ++ bytes k (numberAt n k s) ≡ take (n + k) s
+bytes-next s n k b e h f =
+    let part = take k (drop n s) in
+    let long : length part ≡ k = length-take-le k (drop n s) (simp length-drop (omega arith)) in
+    let same : bytes k (number part) ≡ part =
+    ap (λ (m : ℕ). bytes m (number part)) (sym long) ∙ bytes-of-number part (all-take _ k (drop n s) (all-drop _ n s e)) in
+    rw (f, same) (sym (take-add n k s))

@@ -7,12 +7,17 @@ use native.Mathlib.Omega.{arith}
 use lib.ListN.{length, take, getD}
 use lib.Seq.{take-suc}
 use Rattle.io.specs.Digits.{digits}
+use Rattle.sets.proofs.PutLaws.{OneEach, fields-snoc}
 use Rattle.text.specs.Text.{decimal, blank, nextText, numbersText, hexText, bytesText, lineBody}
 
-next-snoc : (ns : List ℕ) (m : ℕ) → nextText (ns ++ (m ∷ [])) ≡ nextText ns ++ (blank ∷ decimal m)
+-- a number that follows one, and the two digits of a byte
+one-a-number : OneEach nextText (λ n. blank ∷ decimal n)
 unfolding nextText
-next-snoc [] m = rw append-nil
-next-snoc (n ∷ ns) m = rw (next-snoc ns m, append-assoc)
+one-a-number = record { none = refl; more = λ n ns. refl }
+
+pub two-a-byte : OneEach hexText (digits 16 2)
+unfolding hexText
+two-a-byte = record { none = refl; more = λ b bs. refl }
 
 pub numbers-first : (l : List ℕ) → 0 < length l → numbersText (take 1 l) ≡ decimal (getD l 0 0)
 unfolding numbersText nextText
@@ -27,12 +32,7 @@ unfolding numbersText
 numbers-next [] i h few = absurd (omega arith)
 numbers-next (n ∷ l) zero h few = absurd (omega arith)
 numbers-next (n ∷ l) (suc i) h few =
-    rw (add-one (suc i), take-suc l i 0 (omega arith), next-snoc (take i l) (getD l i 0), append-assoc)
-
-pub hex-snoc : (bs : List ℕ) (b : ℕ) → hexText (bs ++ (b ∷ [])) ≡ hexText bs ++ digits 16 2 b
-unfolding hexText
-hex-snoc [] b = refl
-hex-snoc (a ∷ bs) b = rw (hex-snoc bs b, append-assoc)
+    rw (add-one (suc i), take-suc l i 0 (omega arith), fields-snoc one-a-number, append-assoc)
 
 -- where there are no bytes, and where there are some; a line with numbers
 pub bytes-none : (bs : List ℕ) → length bs ≡ 0 → bytesText bs ≡ []

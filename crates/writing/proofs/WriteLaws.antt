@@ -1,19 +1,18 @@
 -- Laws of writing a card field by field: what is written after what stands before it.
 use Prim.Native.Nat.{ℕ, _+_, _*_, _<_, _≤_}
-use mathlib.Core.Path.{_≡_, refl, _∙_}
+use mathlib.Core.Path.{_≡_, _∙_}
 use mathlib.Core.Bool.{true}
 use mathlib.Core.List.{List, _∷_}
 use native.Mathlib.Nat.{zero-add}
-use native.Mathlib.Numerals.{add-one}
 use native.Mathlib.Omega.{arith}
 use borrow.Author.Tests.{eq-eqb, ne-eqb, le-leb, lt-leb}
 use lib.Dec.{leb}
-use lib.ListN.{length, take, getD}
-use lib.Seq.{sets, sets-eq, length-take-le, length-sets, take-suc}
+use lib.ListN.{length}
+use lib.Seq.{sets, sets-eq}
 use Rattle.sets.specs.Quantifiers.{allIn}
 use Rattle.sets.specs.Numbers.{bytes}
 use Rattle.sets.proofs.Numbers.{length-bytes}
-use Rattle.register.proofs.FieldLaws.{Put, put-more}
+use Rattle.sets.proofs.PutLaws.{Put, put-more, fields-length}
 use Rattle.ledger.specs.declared.Ledger.{Ledger}
 use Rattle.model.specs.Model.{Model}
 use Rattle.ledger.specs.State.{view}
@@ -25,7 +24,7 @@ use Rattle.card.specs.declared.WriteAnswer.the-variants.{Written, NoRecord, Buf
 use Rattle.card.specs.Promises.{Fills}
 use Rattle.card.proofs.Fields.{length-field}
 use Rattle.card.proofs.FormLaws.{length-head}
-use Rattle.card.proofs.Written.{OneEach, one-a-record, fields-snoc, fields-length, record-field-size, length-card}
+use Rattle.card.proofs.Written.{one-a-record, record-field-size, length-card}
 
 -- a field is its tag and the length of its value, and then the value
 pub put-field :
@@ -34,42 +33,6 @@ pub put-field :
 put-field {t} s i tag n v long e f =
     let front : Put s i (tag ∷ bytes 2 (length v)) 3 t = record { stored = rw long e; long = rw length-bytes } in
     put-more v front f .stored
-
--- the first k of n turns were taken: t is s with the fields of the first k of l from place i on
-pub record Filled {A : Type 0} (fields : List A → List ℕ) (l : List A) (n : ℕ) (s : List ℕ) (i k : ℕ) (t : List ℕ) : Type 0 where
-  pub held : n ≤ length l
-  pub up-to : k ≤ n
-  pub stored : t ≡ sets s i (fields (take k l))
-  pub long : length t ≡ length s
-
-module _ {A : Type 0} {fields : List A → List ℕ} {oneIf : A → List ℕ} (each : OneEach fields oneIf) where
-  pub filled-none : (l : List A) (n : ℕ) → n ≤ length l → (s : List ℕ) (i : ℕ) → Filled fields l n s i 0 s
-  filled-none l n h s i = record { held = h; up-to = omega arith; stored = rw (each .none); long = refl }
-
-  -- the next field, of m bytes, stands after the k before
-  pub filled-next :
-      {l : List A} {n : ℕ} {s t u : List ℕ} {i k : ℕ} (m : ℕ) → ((a : A) → length (oneIf a) ≡ m) → (d : A) →
-      Filled fields l n s i k t → k < n → u ≡ sets t (i + m * k) (oneIf (getD l k d)) →
-      Filled fields l n s i (k + 1) u
-  filled-next {l} {s} {t} {i} {k} m size d p h e =
-      let few : k ≤ length l = omega (arith, p .held, p .up-to) in
-      let before : Put s i (fields (take k l)) (m * k) t =
-      record { stored = p .stored; long = fields-length each m size (take k l) ∙ rw (length-take-le k l few) } in
-      record {
-        held = p .held;
-        up-to = omega arith;
-        stored =
-            rw (add-one k, take-suc l k d (omega (arith, p .held)), fields-snoc each)
-            (put-more (oneIf (getD l k d)) before e .stored);
-        long = rw e (length-sets t (i + m * k) (oneIf (getD l k d)) ∙ p .long);
-      }
-
-pub filled-all :
-    {A : Type 0} {fields : List A → List ℕ} {l : List A} {n : ℕ} {s t : List ℕ} {i k : ℕ} →
-    Filled fields l n s i k t → n ≤ k → t ≡ sets s i (fields (take n l))
-filled-all {n} {k} p h =
-    let e : k ≡ n = omega (arith, p .up-to) in
-    rw e at (p .stored)
 
 -- head, roles, records and directives, one after another, are the card
 module _ (m : Model) where

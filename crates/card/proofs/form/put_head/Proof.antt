@@ -1,6 +1,6 @@
 -- `form::put_head` writes the three numbers one after another.
 use borrow.Author.Needs.{needs}
-use Rattle.register.proofs.FieldLaws.{put-first, put-next}
+use Rattle.sets.proofs.PutLaws.{put-first, put-next}
 use Rattle.card.proofs.form.put_head.Statement.{statement}
 use Rattle.card.proofs.form.put_head.Tie as tie
 

@@ -4,7 +4,7 @@ use mathlib.Core.Path.{_≡_}
 use native.Mathlib.Omega.{arith}
 use borrow.Author.Needs.{needs}
 use lib.ListN.{length}
-use Rattle.register.proofs.FieldLaws.{put-first, put-next}
+use Rattle.sets.proofs.PutLaws.{put-first, put-next}
 use Rattle.drafts.specs.Form.{draftSize, directiveBytes}
 use Rattle.drafts.proofs.form.put_directive.Statement.{statement}
 use Rattle.drafts.proofs.form.put_directive.Tie as tie

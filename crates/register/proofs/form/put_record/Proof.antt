@@ -1,7 +1,7 @@
 -- `form::put_record` writes the six numbers one after another.
 use borrow.Author.Needs.{needs}
 use Rattle.register.specs.Form.{recordBytes}
-use Rattle.register.proofs.FieldLaws.{put-first, put-next}
+use Rattle.sets.proofs.PutLaws.{put-first, put-next}
 use Rattle.register.proofs.form.put_record.Statement.{statement}
 use Rattle.register.proofs.form.put_record.Tie as tie
 

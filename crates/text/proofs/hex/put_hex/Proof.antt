@@ -3,22 +3,21 @@ use Prim.Native.Nat.{_-_}
 use mathlib.Core.Path.{refl}
 use borrow.Author.Needs.{needs}
 use lib.ListN.{length}
-use Rattle.io.specs.Digits.{digits}
+use Rattle.sets.proofs.PutLaws.{Filled, filled-none, filled-next}
 use Rattle.text.specs.Text.{hexText}
-use Rattle.text.proofs.PutLaws.{Filled, filled-none, filled-next, filled-all}
-use Rattle.text.proofs.TextLaws.{hex-snoc}
+use Rattle.text.proofs.PutLaws.{puts-all}
+use Rattle.text.proofs.TextLaws.{two-a-byte}
 use Rattle.text.proofs.hex.put_hex.Statement.{statement}
 use Rattle.text.proofs.hex.put_hex.Tie as tie
 
 abbrev Inv-loop : tie.InvT-loop
-Inv-loop out₀ at bytes i₀ i-end out i = Filled hexText 2 bytes out₀ at i out
+Inv-loop out₀ at bytes i₀ i-end out i = Filled hexText 2 bytes (length bytes) out₀ at i out
 
 abbrev μ-loop : tie.MeasureT-loop
 μ-loop out₀ at bytes i₀ i-end out i = length bytes - i
 
 loop-holds : tie.Need-loop-holds Inv-loop μ-loop
-unfolding hexText
-loop-holds c = filled-none _ _ _ refl
+loop-holds c = filled-none two-a-byte _ _ (search needs) _ _
 
 mul-put-byte : tie.Need-mul-put-byte Inv-loop μ-loop
 mul-put-byte c = search needs
@@ -42,7 +41,7 @@ loop-again : tie.Need-loop-again Inv-loop μ-loop
 loop-again c =
     let after = c .before .before in
     let turn = after .before .before .before in
-    filled-next (digits 16 2) hex-snoc (λ b. refl) (turn .before .loop .inv) (turn .loop-test .taken) (after .put-byte .ensures)
+    filled-next two-a-byte (λ b. refl) 0 (turn .before .loop .inv) (turn .loop-test .taken) (after .put-byte .ensures)
 
 mul-result : tie.Need-mul-result Inv-loop μ-loop
 mul-result c = search needs
@@ -54,7 +53,7 @@ same-length : tie.Need-same-length Inv-loop μ-loop
 same-length c = search needs
 
 returns : tie.Need-returns Inv-loop μ-loop
-returns c = (filled-all (c .before .loop .inv) (c .loop-test .left), refl)
+returns c = (puts-all (c .before .loop .inv) (c .loop-test .left), refl)
 
 pub put-hex-spec : {M : Type 1} → statement M
 put-hex-spec =

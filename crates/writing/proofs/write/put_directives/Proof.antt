@@ -1,15 +1,15 @@
 -- `write::put_directives`: after i turns the fields of the first i stand one after another.
 use Prim.Native.Nat.{_-_}
 use borrow.Author.Needs.{needs}
+use Rattle.sets.proofs.PutLaws.{Filled, filled-none, filled-next, filled-all}
 use Rattle.directive.specs.Nothing.{noDirective}
 use Rattle.card.specs.Writing.{directiveFields}
 use Rattle.card.proofs.Written.{one-a-directive, directive-field-size}
-use Rattle.writing.proofs.WriteLaws.{Filled, filled-none, filled-next, filled-all}
 use Rattle.writing.proofs.write.put_directives.Statement.{statement}
 use Rattle.writing.proofs.write.put_directives.Tie as tie
 
 abbrev Inv-loop : tie.InvT-loop
-Inv-loop s₀ at n active i₀ s i = Filled directiveFields active n s₀ at i s
+Inv-loop s₀ at n active i₀ s i = Filled directiveFields 28 active n s₀ at i s
 
 abbrev μ-loop : tie.MeasureT-loop
 μ-loop s₀ at n active i₀ s i = n - i
@@ -42,14 +42,14 @@ loop-again : tie.Need-loop-again Inv-loop μ-loop
 loop-again c =
     let after = c .before .before in
     let turn = after .before .before .before in
-    filled-next one-a-directive 28 directive-field-size noDirective (turn .before .loop .inv) (turn .loop-test .taken)
+    filled-next one-a-directive directive-field-size noDirective (turn .before .loop .inv) (turn .loop-test .taken)
     (after .put-directive-field .ensures)
 
 same-length : tie.Need-same-length Inv-loop μ-loop
 same-length c = search needs
 
 returns : tie.Need-returns Inv-loop μ-loop
-returns c = filled-all (c .before .loop .inv) (c .loop-test .left)
+returns c = filled-all (c .before .loop .inv) (c .loop-test .left) .stored
 
 pub put-directives-spec : {M : Type 1} → statement M
 put-directives-spec =

@@ -3,13 +3,12 @@ use Prim.Native.Nat.{_-_}
 use mathlib.Core.Path.{refl}
 use native.Mathlib.Nat.{one-mul}
 use borrow.Author.Needs.{needs}
-use Rattle.card.proofs.Written.{one-a-byte}
-use Rattle.writing.proofs.WriteLaws.{Filled, filled-none, filled-next, filled-all}
+use Rattle.sets.proofs.PutLaws.{one-a-byte, Filled, filled-none, filled-next, filled-all}
 use Rattle.writing.proofs.write.put_parents.Statement.{statement}
 use Rattle.writing.proofs.write.put_parents.Tie as tie
 
 abbrev Inv-loop : tie.InvT-loop
-Inv-loop s₀ at n parents q₀ s q = Filled (λ l. l) parents n s₀ at q s
+Inv-loop s₀ at n parents q₀ s q = Filled (λ l. l) 1 parents n s₀ at q s
 
 abbrev μ-loop : tie.MeasureT-loop
 μ-loop s₀ at n parents q₀ s q = n - q
@@ -35,13 +34,13 @@ loop-less c = search needs
 loop-again : tie.Need-loop-again Inv-loop μ-loop
 loop-again c =
     let turn = c .before in
-    filled-next one-a-byte 1 (λ b. refl) 0 (turn .loop .inv) (c .loop-test .taken) (rw one-mul)
+    filled-next one-a-byte (λ b. refl) 0 (turn .loop .inv) (c .loop-test .taken) (rw one-mul)
 
 same-length : tie.Need-same-length Inv-loop μ-loop
 same-length c = search needs
 
 returns : tie.Need-returns Inv-loop μ-loop
-returns c = filled-all (c .before .loop .inv) (c .loop-test .left)
+returns c = filled-all (c .before .loop .inv) (c .loop-test .left) .stored
 
 pub put-parents-spec : {M : Type 1} → statement M
 put-parents-spec =

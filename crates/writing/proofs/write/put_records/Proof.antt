@@ -1,15 +1,15 @@
 -- `write::put_records`: after x turns the fields of the first x stand one after another.
 use Prim.Native.Nat.{_-_}
 use borrow.Author.Needs.{needs}
+use Rattle.sets.proofs.PutLaws.{Filled, filled-none, filled-next, filled-all}
 use Rattle.register.specs.Register.{noRecord}
 use Rattle.card.specs.Writing.{recordFields}
 use Rattle.card.proofs.Written.{one-a-record, record-field-size}
-use Rattle.writing.proofs.WriteLaws.{Filled, filled-none, filled-next, filled-all}
 use Rattle.writing.proofs.write.put_records.Statement.{statement}
 use Rattle.writing.proofs.write.put_records.Tie as tie
 
 abbrev Inv-loop : tie.InvT-loop
-Inv-loop s₀ at n records x₀ s x = Filled recordFields records n s₀ at x s
+Inv-loop s₀ at n records x₀ s x = Filled recordFields 13 records n s₀ at x s
 
 abbrev μ-loop : tie.MeasureT-loop
 μ-loop s₀ at n records x₀ s x = n - x
@@ -42,14 +42,14 @@ loop-again : tie.Need-loop-again Inv-loop μ-loop
 loop-again c =
     let after = c .before .before in
     let turn = after .before .before .before in
-    filled-next one-a-record 13 record-field-size noRecord (turn .before .loop .inv) (turn .loop-test .taken)
+    filled-next one-a-record record-field-size noRecord (turn .before .loop .inv) (turn .loop-test .taken)
     (after .put-record-field .ensures)
 
 same-length : tie.Need-same-length Inv-loop μ-loop
 same-length c = search needs
 
 returns : tie.Need-returns Inv-loop μ-loop
-returns c = filled-all (c .before .loop .inv) (c .loop-test .left)
+returns c = filled-all (c .before .loop .inv) (c .loop-test .left) .stored
 
 pub put-records-spec : {M : Type 1} → statement M
 put-records-spec =

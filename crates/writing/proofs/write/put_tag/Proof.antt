@@ -2,7 +2,7 @@
 use native.Mathlib.Nat.{mod-eq-of-lt}
 use borrow.Author.Needs.{needs}
 use Rattle.sets.specs.Numbers.{bytes}
-use Rattle.register.proofs.FieldLaws.{put-first, put-next}
+use Rattle.sets.proofs.PutLaws.{put-first, put-next}
 use Rattle.writing.proofs.write.put_tag.Statement.{statement}
 use Rattle.writing.proofs.write.put_tag.Tie as tie
 
