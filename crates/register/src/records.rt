@@ -116,7 +116,7 @@ pub fn is_parent(r: usize, p: usize, x: usize) -> bool
     r == p
 }
 
-// Whether a record that there is is within this reach of record r.
+// Whether the record, where the register has it, is within this reach of record r.
 pub fn reaches(n: Node, reach: u8, r: usize) -> bool
     ensures { λ b. ⌜ ((rs : List Held) (x : ℕ) → x < length rs → NodeOf rs x n → b ≡ reaches rs reach r x) ⌝ }
 {

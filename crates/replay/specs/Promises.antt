@@ -1,4 +1,5 @@
--- What the parts of a replay promise.
+-- What the parts of a replay promise. What stands in the buffer after the line is free; so is what an entry leaves in the lent bytes,
+-- of which the next line shows no more than a write put there.
 use Prim.Native.Nat.{ℕ}
 use mathlib.Core.Path.{_≡_}
 use mathlib.Core.Bool.{true}
