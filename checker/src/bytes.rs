@@ -50,16 +50,43 @@ impl<'a> Bytes<'a> {
     }
 }
 
-/// The bytes of a field. A value is at most 65,535 bytes; more are left out.
-pub fn field(tag: u8, value: &[u8]) -> Vec<u8> {
+/// Puts a field last. A value is at most 65,535 bytes; more are left out.
+pub fn push_field(bytes: &mut Vec<u8>, tag: u8, value: &[u8]) {
+    let value = value.get(..usize::from(u16::MAX)).unwrap_or(value);
     let length = u16::try_from(value.len()).unwrap_or(u16::MAX);
-    let mut bytes = vec![tag];
-    bytes.extend(length.to_be_bytes());
-    bytes.extend(value.iter().take(usize::from(length)));
+    bytes.push(tag);
+    bytes.extend_from_slice(&length.to_be_bytes());
+    bytes.extend_from_slice(value);
+}
+
+/// The bytes of a field.
+pub fn field(tag: u8, value: &[u8]) -> Vec<u8> {
+    let mut bytes = Vec::new();
+    push_field(&mut bytes, tag, value);
     bytes
 }
 
+/// The two lowercase hexadecimal digits of each byte. An index out of range
+/// would not compile here.
+#[allow(clippy::indexing_slicing)]
+const HEX: [[u8; 2]; 256] = {
+    let digits = *b"0123456789abcdef";
+    let mut pairs = [[0; 2]; 256];
+    let mut byte = 0;
+    while byte < pairs.len() {
+        pairs[byte] = [digits[byte / 16], digits[byte % 16]];
+        byte += 1;
+    }
+    pairs
+};
+
 /// The bytes in lowercase hexadecimal.
 pub fn hex(bytes: &[u8]) -> String {
-    bytes.iter().map(|byte| format!("{byte:02x}")).collect()
+    let mut text = vec![0; bytes.len().saturating_mul(2)];
+    for (pair, byte) in text.chunks_exact_mut(2).zip(bytes) {
+        if let Some(digits) = HEX.get(usize::from(*byte)) {
+            pair.copy_from_slice(digits);
+        }
+    }
+    String::from_utf8(text).unwrap_or_default()
 }

@@ -1,6 +1,6 @@
 //! The card: reading it into a ledger and writing it from one.
 
-use crate::bytes::{field, Bytes};
+use crate::bytes::{field, push_field, Bytes};
 use crate::directive::{Fields, LENGTH, LENGTH_EDITION_1};
 use crate::ledger::Ledger;
 use crate::refusal::Refusal;
@@ -149,12 +149,12 @@ pub fn write(ledger: &Ledger, buffer: &mut [u8]) -> Result<usize, Refusal> {
         return Err(Refusal::NoRecord);
     }
     let mut card = head_field(2, ledger.patient(), ledger.clock());
-    card.extend(field(ROLES, ledger.register().roles()));
+    push_field(&mut card, ROLES, ledger.register().roles());
     for record in ledger.register().records() {
-        card.extend(field(RECORD, &record.encode()));
+        push_field(&mut card, RECORD, &record.encode());
     }
     for directive in ledger.active() {
-        card.extend(field(DIRECTIVE, &directive.fields().encode()));
+        push_field(&mut card, DIRECTIVE, &directive.fields().encode());
     }
     let target = buffer
         .get_mut(..card.len())

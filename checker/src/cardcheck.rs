@@ -6,12 +6,12 @@ use crate::answer::{Answer, CardSize};
 use crate::card;
 
 /// "Takes the first 65,535 bytes of standard input as a card."
-pub const CARD_LIMIT: u64 = 65_535;
+pub const CARD_LIMIT: u16 = 65_535;
 
 /// The answer to the card at the start of the input.
 pub fn cardcheck(input: impl Read) -> io::Result<Answer> {
     let mut bytes = Vec::new();
-    input.take(CARD_LIMIT).read_to_end(&mut bytes)?;
+    input.take(u64::from(CARD_LIMIT)).read_to_end(&mut bytes)?;
     let ledger = card::read(&bytes);
     Ok(Answer::Card(ledger.map(|ledger| CardSize::of(&ledger))))
 }

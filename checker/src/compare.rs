@@ -2,15 +2,23 @@
 
 use std::fmt;
 use std::io::{self, Write};
-use std::process::{Command, Stdio};
+use std::process::{ChildStdin, Command, Stdio};
 use std::thread;
+use std::time::Duration;
 
 use crate::answer::Answer;
 use crate::bytes::hex;
 use crate::cardcheck::cardcheck;
 use crate::counts::Counts;
+use crate::extent::Extent;
 use crate::generate::{Input, InputKind};
+use crate::parts::parts;
 use crate::replay::Replay;
+
+/// Between two parts of an input.
+const PAUSE: Duration = Duration::from_millis(5);
+/// How many bytes of an input are shown.
+const SHOWN: usize = 4_096;
 
 /// This implementation's answers to an input.
 pub fn answers(input: &Input) -> io::Result<Vec<Answer>> {
@@ -36,9 +44,9 @@ impl Program {
         })
     }
 
-    /// What it prints for this input. The input is written while the output
-    /// is read, and the program need not read all of it.
-    fn output(&self, input: &[u8]) -> io::Result<Vec<u8>> {
+    /// What it prints for the input in these parts. The input is written while
+    /// the output is read, and the program need not read all of it.
+    fn output(&self, parts: &[&[u8]]) -> io::Result<Vec<u8>> {
         let mut child = Command::new(&self.name)
             .args(&self.arguments)
             .stdin(Stdio::piped())
@@ -46,11 +54,22 @@ impl Program {
             .spawn()?;
         let stdin = child.stdin.take();
         thread::scope(|scope| {
-            scope.spawn(move || stdin.map(|mut stdin| stdin.write_all(input)));
+            scope.spawn(move || stdin.map(|stdin| hand_over(stdin, parts)));
             child.wait_with_output()
         })
         .map(|output| output.stdout)
     }
+}
+
+/// Writes the parts with a pause between them, and ends the input.
+fn hand_over(mut stdin: ChildStdin, parts: &[&[u8]]) -> io::Result<()> {
+    for (number, part) in parts.iter().enumerate() {
+        if number > 0 {
+            thread::sleep(PAUSE);
+        }
+        stdin.write_all(part)?;
+    }
+    Ok(())
 }
 
 /// The first line that is not the same.
@@ -71,7 +90,18 @@ impl fmt::Display for Difference {
         };
         writeln!(f, "different: {}", self.input.file_name())?;
         writeln!(f, "seed {}, index {}", self.input.seed, self.input.index)?;
-        writeln!(f, "input {}", hex(&self.input.bytes))?;
+        match self.input.bytes.split_at_checked(SHOWN) {
+            Some((start, rest)) if !rest.is_empty() => {
+                let more = rest.len();
+                writeln!(f, "input {} and {more} more bytes", hex(start))?;
+            }
+            _ => writeln!(f, "input {}", hex(&self.input.bytes))?,
+        }
+        let parts = parts(&self.input);
+        if parts.len() > 1 {
+            let lengths: Vec<String> = parts.iter().map(|part| part.len().to_string()).collect();
+            writeln!(f, "in parts of {} bytes", lengths.join(", "))?;
+        }
         writeln!(f, "line {}", self.line)?;
         writeln!(f, "checker {}", or_none(&self.checker))?;
         write!(f, "program {}", or_none(&self.program))
@@ -106,17 +136,25 @@ pub struct Programs {
 
 impl Programs {
     /// Runs the input here and there, and counts the answers.
-    pub fn compare(&self, input: Input, counts: &mut Counts) -> io::Result<Option<Difference>> {
+    pub fn compare(
+        &self,
+        input: Input,
+        counts: &mut Counts,
+        extent: &mut Extent,
+    ) -> io::Result<Option<Difference>> {
         let mut expected = String::new();
         for answer in answers(&input)? {
             counts.add(&answer);
-            expected.push_str(&format!("{answer}\n"));
+            expected.push_str(&answer.to_string());
+            expected.push('\n');
         }
         let program = match input.kind {
             InputKind::Card => &self.cardcheck,
             InputKind::Replay => &self.replay,
         };
-        let output = program.output(&input.bytes)?;
+        let parts = parts(&input);
+        extent.add(&input, parts.len());
+        let output = program.output(&parts)?;
         let found = first_difference(&expected, &String::from_utf8_lossy(&output));
         Ok(found.map(|(line, checker, program)| Difference {
             input,

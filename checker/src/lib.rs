@@ -40,7 +40,11 @@ pub mod generate;
 
 pub mod compare;
 
+pub mod parts;
+
 pub mod counts;
+
+pub mod extent;
 
 pub mod bench;
 

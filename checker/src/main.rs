@@ -11,6 +11,7 @@
 
 use std::collections::BTreeMap;
 use std::env;
+use std::fmt::Display;
 use std::fs;
 use std::io::{self, BufWriter, Read, Write};
 use std::path::Path;
@@ -19,7 +20,8 @@ use std::process::ExitCode;
 use checker::bench::measures;
 use checker::cardcheck::cardcheck;
 use checker::compare::{answers, Program, Programs};
-use checker::counts::Counts;
+use checker::counts::{Counts, Kind};
+use checker::extent::Extent;
 use checker::generate::inputs;
 use checker::replay::Replay;
 
@@ -148,9 +150,13 @@ fn generate(options: &Options, output: &mut impl Write) -> io::Result<ExitCode> 
         }
     }
     write!(output, "{counts}")?;
-    let missing = counts.missing();
-    for kind in &missing {
-        writeln!(output, "missing: {kind}")?;
+    print_missing(&counts.missing(), output)
+}
+
+/// Names what did not occur. The code tells whether there is any.
+fn print_missing(missing: &[impl Display], output: &mut impl Write) -> io::Result<ExitCode> {
+    for what in missing {
+        writeln!(output, "missing: {what}")?;
     }
     Ok(if missing.is_empty() {
         ExitCode::SUCCESS
@@ -169,8 +175,9 @@ fn compare(options: &Options, output: &mut impl Write) -> io::Result<ExitCode> {
         replay: options.program("--replay")?,
     };
     let mut counts = Counts::default();
+    let mut extent = Extent::default();
     for input in inputs(seed, cards, replays) {
-        if let Some(difference) = programs.compare(input, &mut counts)? {
+        if let Some(difference) = programs.compare(input, &mut counts, &mut extent)? {
             writeln!(output, "{difference}")?;
             let directory = options.directory().unwrap_or(Path::new("."));
             fs::create_dir_all(directory)?;
@@ -178,9 +185,11 @@ fn compare(options: &Options, output: &mut impl Write) -> io::Result<ExitCode> {
             return Ok(ExitCode::from(FOUND));
         }
     }
-    write!(output, "{counts}")?;
+    write!(output, "{counts}{extent}")?;
     writeln!(output, "{cards} cards and {replays} replays, 0 different")?;
-    Ok(ExitCode::SUCCESS)
+    let mut missing: Vec<String> = counts.missing().iter().map(Kind::to_string).collect();
+    missing.extend(extent.missing());
+    print_missing(&missing, output)
 }
 
 /// Stores the inputs of the benchmark and prints a line for each operation:

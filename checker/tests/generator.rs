@@ -2,24 +2,50 @@
 
 use std::collections::BTreeSet;
 
+use checker::answer::Answer;
+use checker::card;
 use checker::compare::answers;
 use checker::counts::{Counts, Kind};
 use checker::generate::{inputs, Input, InputKind};
+use checker::refusal::Refusal;
 
-fn counts(inputs: impl Iterator<Item = Input>) -> Counts {
+const CALLS: [&str; 7] = [
+    "commit", "revoke", "advance", "issue", "decide", "brief", "write",
+];
+
+fn answered(input: &Input) -> Vec<Answer> {
+    answers(input).expect("a slice can be read")
+}
+
+fn count(answers: &[Answer]) -> Counts {
     let mut counts = Counts::default();
-    for input in inputs {
-        for answer in answers(&input).expect("a slice can be read") {
-            counts.add(&answer);
-        }
+    for answer in answers {
+        counts.add(answer);
     }
     counts
 }
 
+fn counts(inputs: impl Iterator<Item = Input>) -> Counts {
+    let answers: Vec<Answer> = inputs.flat_map(|input| answered(&input)).collect();
+    count(&answers)
+}
+
+/// The card or replay of this seed and index.
+fn input(kind: InputKind, seed: u64, index: u64) -> Input {
+    let mut all = match kind {
+        InputKind::Card => inputs(seed, index + 1, 0),
+        InputKind::Replay => inputs(seed, 0, index + 1),
+    };
+    all.find(|input| input.index == index)
+        .expect("there is such an input")
+}
+
+/// The long ones are left out.
 #[test]
 fn every_refusal_and_basis_occurs_often() {
     for seed in [1, 2, 3] {
-        let counts = counts(inputs(seed, 2000, 2000));
+        let short = inputs(seed, 2000, 2000).filter(|input| input.bytes.len() < 60_000);
+        let counts = counts(short);
         assert_eq!(counts.missing(), []);
         for kind in Counts::wanted() {
             assert!(
@@ -28,9 +54,7 @@ fn every_refusal_and_basis_occurs_often() {
                 counts.of(kind)
             );
         }
-        for call in [
-            "card", "commit", "revoke", "advance", "issue", "decide", "brief", "write",
-        ] {
+        for call in ["card"].into_iter().chain(CALLS) {
             let accepted = counts.of(Kind::Accepted(call));
             let refused = counts.of(Kind::Refused(call));
             assert!(accepted >= 500, "seed {seed}, {call}: {accepted}");
@@ -81,4 +105,100 @@ fn indices_give_different_bytes() {
 fn files_are_named_by_seed_and_index() {
     let names: Vec<String> = inputs(5, 2, 2).map(|input| input.file_name()).collect();
     assert_eq!(names, ["5-0.card", "5-1.card", "5-0.replay", "5-1.replay"]);
+}
+
+/// In the last 20,000 of many calls every refusal still occurs, but for 23.
+#[test]
+fn many_calls_are_mixed_to_their_end() {
+    for seed in [1, 2, 3] {
+        let answers = answered(&input(InputKind::Replay, seed, 100));
+        assert!(matches!(answers[0], Answer::Card(Ok(_))));
+        assert!(answers.len() > 70_000);
+        let counts = count(&answers[50_000..]);
+        for number in (6..=22).chain([24]) {
+            let kind = Kind::CallRefusal(number);
+            assert!(counts.of(kind) >= 50, "seed {seed}, {kind}");
+        }
+        for call in CALLS {
+            assert!(counts.of(Kind::Accepted(call)) >= 100, "{call}");
+        }
+    }
+}
+
+/// Every refusal that the empty ledger can give, and every call that it can
+/// accept.
+#[test]
+fn many_calls_on_the_empty_ledger() {
+    for seed in [1, 2, 3] {
+        let answers = answered(&input(InputKind::Replay, seed, 101));
+        assert_eq!(answers[0], Answer::Card(Err(Refusal::CardIncomplete)));
+        assert!(answers.len() > 70_000);
+        let counts = count(&answers[50_000..]);
+        for number in (6..=8).chain(15..=23) {
+            let kind = Kind::CallRefusal(number);
+            assert!(counts.of(kind) >= 50, "seed {seed}, {kind}");
+        }
+        for call in ["advance", "issue", "brief"] {
+            assert!(counts.of(Kind::Accepted(call)) >= 100, "{call}");
+        }
+    }
+}
+
+#[test]
+fn a_value_of_65535_bytes() {
+    let head = [0x10, 0xFF, 0xFF];
+    let refused = Answer::Commit(Err(Refusal::DraftLength));
+    for seed in [1, 2, 3] {
+        let whole = input(InputKind::Replay, seed, 102);
+        assert!(whole.bytes.windows(3).any(|bytes| bytes == head));
+        let answers = answered(&whole);
+        assert!(matches!(answers[0], Answer::Card(Ok(_))));
+        assert!(answers.contains(&refused));
+        assert!(!answers.contains(&Answer::Malformed));
+        let cut = input(InputKind::Replay, seed, 103);
+        let start = cut.bytes.len() - 65_534 - 3;
+        assert_eq!(cut.bytes[start..start + 3], head);
+        assert_eq!(answered(&cut).last(), Some(&Answer::Malformed));
+    }
+}
+
+#[test]
+fn a_card_of_65535_bytes_in_a_replay() {
+    for seed in [1, 2, 3] {
+        for (index, refusal) in [
+            (104, Refusal::FieldPlaceOrLength),
+            (105, Refusal::FieldNotWhole),
+        ] {
+            let input = input(InputKind::Replay, seed, index);
+            assert_eq!(input.bytes[..2], [0xFF, 0xFF]);
+            let answers = answered(&input);
+            assert_eq!(answers[0], Answer::Card(Err(refusal)));
+            assert!(answers.len() > 1);
+            assert!(!answers.contains(&Answer::Malformed));
+        }
+    }
+}
+
+/// A field without a place gives 2 where it stands whole in what is read, and
+/// 1 where it does not.
+#[test]
+fn cards_longer_than_what_cardcheck_takes() {
+    let place = Err(Refusal::FieldPlaceOrLength);
+    let whole = Err(Refusal::FieldNotWhole);
+    for seed in [1, 2, 3] {
+        let ends_at_the_cut = input(InputKind::Card, seed, 100);
+        assert!(ends_at_the_cut.bytes.len() > 65_536);
+        assert_eq!(
+            answered(&ends_at_the_cut),
+            [Answer::Card(Err(Refusal::FieldPlaceOrLength))]
+        );
+        assert_eq!(card::read(&ends_at_the_cut.bytes[..65_534]), whole);
+        let ends_after_the_cut = input(InputKind::Card, seed, 101);
+        assert!(ends_after_the_cut.bytes.len() > 65_536);
+        assert_eq!(
+            answered(&ends_after_the_cut),
+            [Answer::Card(Err(Refusal::FieldNotWhole))]
+        );
+        assert_eq!(card::read(&ends_after_the_cut.bytes), place);
+    }
 }

@@ -6,7 +6,8 @@ use std::path::{Path, PathBuf};
 use std::process::{Command, Output, Stdio};
 
 use checker::bytes::{field, hex};
-use checker::generate::inputs;
+use checker::generate::{inputs, Input};
+use checker::parts::parts;
 use checker::replay::encode;
 
 use crate::support::sample;
@@ -119,7 +120,9 @@ fn generate_prints_the_table_and_writes_the_inputs() {
     assert_eq!(fs::read_dir(&out).expect("a directory").count(), 5);
 }
 
-fn compare(cardcheck: &str, replay: &str, out: &Path) -> Output {
+/// Compares this many cards and replays of seed 11.
+fn compare(counts: (u64, u64), cardcheck: &str, replay: &str, out: &Path) -> Output {
+    let (cards, replays) = (counts.0.to_string(), counts.1.to_string());
     let out = out.to_str().expect("the path is text");
     run(
         &[
@@ -127,9 +130,9 @@ fn compare(cardcheck: &str, replay: &str, out: &Path) -> Output {
             "--seed",
             "11",
             "--cards",
-            "150",
+            &cards,
             "--replays",
-            "150",
+            &replays,
             "--cardcheck",
             cardcheck,
             "--replay",
@@ -148,20 +151,59 @@ fn own(command: &str) -> String {
 #[test]
 fn the_checker_does_not_differ_from_itself() {
     let out = directory("same");
-    let output = compare(&own("cardcheck"), &own("replay"), &out);
+    let output = compare((300, 150), &own("cardcheck"), &own("replay"), &out);
     let stdout = text(&output.stdout);
     assert!(output.status.success(), "{stdout}");
-    assert!(stdout.ends_with("150 cards and 150 replays, 0 different\n"));
-    assert!(stdout.contains("refusal"));
+    assert!(stdout.contains("\ncards in parts "));
+    assert!(stdout.ends_with("\n300 cards and 150 replays, 0 different\n"));
     assert_eq!(fs::read_dir(&out).expect("a directory").count(), 0);
 }
 
-/// A shell script that runs the checker and changes its output.
-fn changed(directory: &Path, command: &str, change: &str) -> String {
-    let script = directory.join(format!("{command}.sh"));
-    let text = format!("{CHECKER} {command} | {change}\n");
+#[test]
+fn compare_names_what_did_not_occur() {
+    let out = directory("missing");
+    let output = compare((20, 20), &own("cardcheck"), &own("replay"), &out);
+    assert_eq!(output.status.code(), Some(1));
+    let stdout = text(&output.stdout);
+    let (_, missing) = stdout
+        .split_once("20 cards and 20 replays, 0 different\n")
+        .expect("nothing is different");
+    assert!(
+        missing.contains("missing: refusal 11 of a card\n"),
+        "{missing}"
+    );
+    assert!(
+        missing.contains("missing: calls of the longest replay ("),
+        "{missing}"
+    );
+}
+
+/// A shell script, as a program.
+fn script(directory: &Path, text: &str) -> String {
+    let script = directory.join("program.sh");
     fs::write(&script, text).expect("the script can be written");
     format!("sh {}", script.to_str().expect("the path is text"))
+}
+
+/// Runs the checker and changes its output.
+fn changed(directory: &Path, command: &str, change: &str) -> String {
+    script(directory, &format!("{CHECKER} {command} | {change}\n"))
+}
+
+/// Changes the input and runs the checker.
+fn fed(directory: &Path, command: &str, change: &str) -> String {
+    script(directory, &format!("{change} | {CHECKER} {command}\n"))
+}
+
+/// The input that is named as different, and its line.
+fn different(output: &Output) -> (String, String) {
+    assert_eq!(output.status.code(), Some(1));
+    let stdout = text(&output.stdout);
+    let after = |start: &str| {
+        let mut found = stdout.lines().filter_map(|line| line.strip_prefix(start));
+        found.next().expect("there is such a line").to_string()
+    };
+    (after("different: "), after("line "))
 }
 
 #[test]
@@ -169,7 +211,7 @@ fn a_wrong_cardcheck_is_found() {
     let out = directory("wrong-cardcheck");
     let scripts = directory("wrong-cardcheck-scripts");
     let wrong = changed(&scripts, "cardcheck", "sed 's/^9 /8 /'");
-    let output = compare(&wrong, &own("replay"), &out);
+    let output = compare((150, 150), &wrong, &own("replay"), &out);
     assert_eq!(output.status.code(), Some(1));
     let first = inputs(11, 150, 0)
         .find(|input| text(&run(&["cardcheck"], &input.bytes).stdout) == "9 0 0\n")
@@ -185,6 +227,49 @@ fn a_wrong_cardcheck_is_found() {
     assert_eq!(stored, first.bytes);
 }
 
+/// A program that makes one read call.
+const READS_ONCE: &str = "dd bs=65535 count=1 2>/dev/null";
+
+/// The input that is different goes in parts, or is more than a pipe takes at
+/// once.
+fn assert_in_pieces(output: &Output, mut inputs: impl Iterator<Item = Input>) {
+    let (name, _) = different(output);
+    let found = inputs.find(|input| input.file_name() == name);
+    let found = found.expect("the input is one of these");
+    let in_parts = parts(&found).len() > 1;
+    assert!(in_parts || found.bytes.len() > 4096, "{name}");
+    assert_eq!(text(&output.stdout).contains("\nin parts of "), in_parts);
+}
+
+#[test]
+fn a_cardcheck_that_reads_once_is_found() {
+    let out = directory("cardcheck-reads-once");
+    let scripts = directory("cardcheck-reads-once-scripts");
+    let wrong = fed(&scripts, "cardcheck", READS_ONCE);
+    let output = compare((3000, 0), &wrong, &own("replay"), &out);
+    assert_in_pieces(&output, inputs(11, 3000, 0));
+}
+
+#[test]
+fn a_cardcheck_that_cuts_elsewhere_is_found() {
+    let scripts = directory("cut-elsewhere-scripts");
+    let out = directory("cut-elsewhere");
+    let early = fed(&scripts, "cardcheck", "head -c 65534");
+    let output = compare((102, 0), &early, &own("replay"), &out);
+    assert_eq!(
+        different(&output),
+        ("11-100.card".to_string(), "1".to_string())
+    );
+    // With a byte more, the field at the cut of card 101 stands whole.
+    let late = "head -c 65536 > $0.in; if [ $(wc -c < $0.in) = 65536 ]; then echo 2 0 0; else";
+    let late = format!("{late} {CHECKER} cardcheck < $0.in; fi\n");
+    let output = compare((102, 0), &script(&scripts, &late), &own("replay"), &out);
+    assert_eq!(
+        different(&output),
+        ("11-101.card".to_string(), "1".to_string())
+    );
+}
+
 #[test]
 fn a_wrong_replay_is_found() {
     let scripts = directory("wrong-replay-scripts");
@@ -197,22 +282,42 @@ fn a_wrong_replay_is_found() {
     ] {
         let out = directory(&format!("wrong-replay-{name}"));
         let wrong = changed(&scripts, "replay", change);
-        let output = compare(&own("cardcheck"), &wrong, &out);
-        assert_eq!(output.status.code(), Some(1), "{name}");
-        let stdout = text(&output.stdout);
-        assert!(stdout.starts_with("different: 11-"), "{name}");
-        assert!(stdout.contains("\nline "), "{name}");
+        let output = compare((0, 150), &own("cardcheck"), &wrong, &out);
+        assert!(different(&output).0.starts_with("11-"), "{name}");
         assert_eq!(fs::read_dir(&out).expect("a directory").count(), 1);
     }
 }
 
 #[test]
+fn a_replay_that_reads_once_is_found() {
+    let out = directory("replay-reads-once");
+    let scripts = directory("replay-reads-once-scripts");
+    let wrong = fed(&scripts, "replay", READS_ONCE);
+    let output = compare((0, 101), &own("cardcheck"), &wrong, &out);
+    assert_in_pieces(&output, inputs(11, 0, 101));
+}
+
+/// The card's line and those of 256 calls.
+#[test]
+fn a_replay_that_stops_after_256_calls_is_found() {
+    let out = directory("256-calls");
+    let scripts = directory("256-calls-scripts");
+    let wrong = changed(&scripts, "replay", "head -n 257");
+    let output = compare((0, 101), &own("cardcheck"), &wrong, &out);
+    assert_eq!(
+        different(&output),
+        ("11-100.replay".to_string(), "258".to_string())
+    );
+    assert!(text(&output.stdout).contains(" more bytes\n"));
+}
+
+#[test]
 fn a_program_that_prints_something_else_is_found() {
     let out = directory("something-else");
-    let output = compare("echo 0 0 0", "echo malformed", &out);
+    let output = compare((150, 150), "echo 0 0 0", "echo malformed", &out);
     assert_eq!(output.status.code(), Some(1));
     assert!(text(&output.stdout).contains("\nprogram 0 0 0\n"));
-    let output = compare(&own("cardcheck"), "echo malformed", &out);
+    let output = compare((150, 150), &own("cardcheck"), "echo malformed", &out);
     assert_eq!(output.status.code(), Some(1));
     assert!(text(&output.stdout).contains("\nprogram malformed\n"));
 }
@@ -220,7 +325,7 @@ fn a_program_that_prints_something_else_is_found() {
 #[test]
 fn a_program_that_is_not_there() {
     let out = directory("not-there");
-    let output = compare("./no-such-program", &own("replay"), &out);
+    let output = compare((1, 1), "./no-such-program", &own("replay"), &out);
     assert_eq!(output.status.code(), Some(2));
 }
 

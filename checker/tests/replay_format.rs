@@ -75,6 +75,14 @@ fn a_line_for_the_card_and_each_call() {
 }
 
 #[test]
+fn the_digits_of_every_byte() {
+    let bytes: Vec<u8> = (0..=255).collect();
+    let digits: Vec<String> = bytes.iter().map(|byte| format!("{byte:02x}")).collect();
+    assert_eq!(hex(&bytes), digits.concat());
+    assert_eq!(hex(&[]), "");
+}
+
+#[test]
 fn a_refused_card_goes_on_with_the_empty_ledger() {
     let calls = [
         commit_call(directive_a()),

@@ -7,6 +7,7 @@ mod definition;
 mod enumeration;
 mod full_register;
 mod generator;
+mod handover;
 mod near_readings;
 mod order;
 mod programs;

@@ -3,7 +3,7 @@
 use super::drafts;
 use super::scene::{Profile, Scene, TriedToken};
 use crate::directive::{Fields, LENGTH};
-use crate::ledger::{MAX_TOKENS, MAX_TOKEN_LENGTH};
+use crate::ledger::{Ledger, MAX_ACTIVE, MAX_TOKENS, MAX_TOKEN_LENGTH};
 use crate::random::Random;
 use crate::register::Reach;
 use crate::replay::Call;
@@ -23,6 +23,56 @@ pub fn calls(scene: &mut Scene, random: &mut Random) -> Vec<Call> {
     }
     end(scene, random, &mut calls);
     calls
+}
+
+/// At least so many calls on this ledger, which changes up to the end: the
+/// clock goes on in short steps, and at times all directives are revoked.
+pub fn many(
+    scene: &mut Scene,
+    ledger: &mut Ledger,
+    random: &mut Random,
+    count: usize,
+) -> Vec<Call> {
+    scene.stride = 300;
+    let mut calls = Vec::new();
+    while calls.len() < count {
+        let made = calls.len();
+        if random.chance(1) {
+            let active = ledger.active().iter();
+            calls.extend(active.map(|directive| Call::Revoke {
+                number: directive.number,
+            }));
+            scene.change_effects(random);
+            if random.chance(50) {
+                fill(scene, random, &mut calls);
+            }
+        } else {
+            step(scene, random, &mut calls);
+        }
+        for call in calls.iter().skip(made) {
+            call.run(ledger);
+        }
+        scene.forget(ledger);
+    }
+    end(scene, random, &mut calls);
+    calls
+}
+
+/// Permits for one person each, one more than can be active.
+fn fill(scene: &Scene, random: &mut Random, calls: &mut Vec<Call>) {
+    let draft = drafts::plain(scene, random);
+    for (person, _) in (0..).zip(0..=MAX_ACTIVE) {
+        let permit = Fields {
+            number: person,
+            effect: 1,
+            kind: 0,
+            subject: person,
+            ..draft
+        };
+        calls.push(Call::Commit {
+            draft: permit.encode().to_vec(),
+        });
+    }
 }
 
 /// One call, or a few that belong together.
@@ -119,6 +169,7 @@ fn advance(scene: &mut Scene, random: &mut Random) -> Call {
         97 => u32::MAX,
         _ => clock.saturating_add(300),
     };
+    let minute = minute.min(clock.saturating_add(scene.stride));
     scene.clock = clock.max(minute);
     Call::Advance { minute }
 }

@@ -1,6 +1,6 @@
 //! Damage to cards and replays.
 
-use crate::bytes::field;
+use crate::bytes::{field, push_field};
 use crate::card::{DIRECTIVE, HEAD, RECORD, ROLES};
 use crate::cardcheck::CARD_LIMIT;
 use crate::random::Random;
@@ -198,14 +198,25 @@ fn damage_value(fields: &mut [Vec<u8>], random: &mut Random) {
     }
 }
 
-/// A card around the length where `cardcheck` cuts: a last field without a
-/// place that stands whole before the cut or is cut.
-pub fn long_card(fields: Vec<Vec<u8>>, random: &mut Random) -> Vec<u8> {
-    let mut bytes = fields.concat();
-    let limit = usize::try_from(CARD_LIMIT).unwrap_or(usize::MAX);
-    let left = limit.saturating_sub(bytes.len()).saturating_sub(VALUE);
+/// A card around the length where `cardcheck` cuts: a field without a place
+/// or length that stands whole before the cut or is cut. In some cases the
+/// card stands behind it once more.
+pub fn long_card(fields: &[Vec<u8>], random: &mut Random) -> Vec<u8> {
     let more = random.pick(&[0, 0, 1, 2, 100]);
-    bytes.extend(field(0xFF, &vec![0; left.saturating_add(more)]));
+    let tag = random.pick(&[HEAD, ROLES, RECORD, DIRECTIVE, 0xFF]);
+    let mut bytes = with_long_field(fields, tag, more);
+    if random.chance(50) {
+        bytes.extend(fields.concat());
+    }
+    bytes
+}
+
+/// The fields and one more, which ends so many bytes behind the first 65,535.
+pub fn with_long_field(fields: &[Vec<u8>], tag: u8, more: usize) -> Vec<u8> {
+    let mut bytes = fields.concat();
+    let start = bytes.len().saturating_add(VALUE);
+    let left = usize::from(CARD_LIMIT).saturating_sub(start);
+    push_field(&mut bytes, tag, &vec![0; left.saturating_add(more)]);
     bytes
 }
 

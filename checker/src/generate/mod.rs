@@ -4,6 +4,7 @@
 mod calls;
 mod damage;
 mod drafts;
+mod long;
 mod scene;
 
 use std::fs;
@@ -15,6 +16,7 @@ use crate::card;
 use crate::directive::Fields;
 use crate::random::Random;
 use crate::replay;
+pub use long::{LONGEST, MANY_CALLS};
 use scene::{Profile, Scene};
 
 /// Which of the two kinds of input.
@@ -73,12 +75,15 @@ fn profile(random: &mut Random) -> Profile {
     }
 }
 
-/// The card with this index: every eighth is one of a list of all damages of
-/// a kind, the others are random.
+/// The card with this index: two are longer than what `cardcheck` takes, every
+/// eighth is one of a list of all damages of a kind, the others are random.
 fn card(seed: u64, index: u64) -> Vec<u8> {
-    match index % 8 {
-        7 => listed_damage(seed, index / 8),
-        _ => random_card(seed, index),
+    let mut random = Random::of_input(seed, 0, index);
+    match (index, index % 8) {
+        (100, _) => long::card_whole_at_the_cut(&mut random),
+        (101, _) => long::card_not_whole_at_the_cut(&mut random),
+        (_, 7) => listed_damage(seed, index / 8),
+        _ => random_card(&mut random),
     }
 }
 
@@ -104,38 +109,49 @@ fn small_card(seed: u64, round: u64) -> Vec<Vec<u8>> {
     card_fields(&scene, &[directive])
 }
 
-fn random_card(seed: u64, index: u64) -> Vec<u8> {
-    let mut random = Random::of_input(seed, 0, index);
-    let profile = profile(&mut random);
-    let mut scene = Scene::new(profile, &mut random);
-    let mut directives = drafts::for_card(&mut scene, &mut random);
+fn random_card(random: &mut Random) -> Vec<u8> {
+    let profile = profile(random);
+    let mut scene = Scene::new(profile, random);
+    let mut directives = drafts::for_card(&mut scene, random);
     match random.range(0, 99) {
         0..=49 => card_fields(&scene, &directives).concat(),
         50..=64 => {
-            drafts::spoil_one(&scene, &mut random, &mut directives);
+            drafts::spoil_one(&scene, random, &mut directives);
             card_fields(&scene, &directives).concat()
         }
-        65..=97 => damage::card(card_fields(&scene, &directives), &mut random),
-        _ => damage::long_card(card_fields(&scene, &directives), &mut random),
+        65..=97 => damage::card(card_fields(&scene, &directives), random),
+        _ => damage::long_card(&card_fields(&scene, &directives), random),
     }
 }
 
-/// The replay with this index.
+/// The replay with this index: a few are long, the others are random.
 fn replay(seed: u64, index: u64) -> Vec<u8> {
     let mut random = Random::of_input(seed, 1, index);
-    let profile = profile(&mut random);
-    let mut scene = Scene::new(profile, &mut random);
-    let directives = drafts::for_card(&mut scene, &mut random);
+    match index {
+        100 => long::many_calls(&mut random),
+        101 => long::many_calls_on_the_empty_ledger(&mut random),
+        102 => long::value(&mut random),
+        103 => long::value_not_whole(&mut random),
+        104 => long::card_part(&mut random),
+        105 => long::card_part_not_whole(&mut random),
+        _ => random_replay(&mut random),
+    }
+}
+
+fn random_replay(random: &mut Random) -> Vec<u8> {
+    let profile = profile(random);
+    let mut scene = Scene::new(profile, random);
+    let directives = drafts::for_card(&mut scene, random);
     let fields = card_fields(&scene, &directives);
     let card = if random.chance(5) {
-        damage::card(fields, &mut random)
+        damage::card(fields, random)
     } else {
         fields.concat()
     };
-    let calls = calls::calls(&mut scene, &mut random);
+    let calls = calls::calls(&mut scene, random);
     let bytes = replay::encode(&card, &calls);
     if random.chance(8) {
-        damage::replay(bytes, &mut random)
+        damage::replay(bytes, random)
     } else {
         bytes
     }

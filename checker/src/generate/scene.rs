@@ -1,6 +1,7 @@
 //! A random patient with a register, and what has been tried on the ledger.
 
-use crate::directive::{Fields, ALL_PURPOSES};
+use crate::directive::{Directive, Fields, ALL_PURPOSES};
+use crate::ledger::Ledger;
 use crate::random::Random;
 use crate::register::{Record, Register, MAX_RECORDS, MAX_ROLES};
 
@@ -33,6 +34,9 @@ pub struct TriedToken {
     pub until: u32,
 }
 
+/// How many of the last drafts and tokens are kept.
+const LAST_TRIED: usize = 8;
+
 pub struct Scene {
     pub profile: Profile,
     pub edition: u8,
@@ -46,6 +50,8 @@ pub struct Scene {
     pub purposes: u16,
     /// How far minutes are from the clock.
     pub span: u32,
+    /// How far an advance goes at most.
+    pub stride: u32,
     /// Most directives are on one record and one person.
     pub narrow: bool,
     pub effects: Effects,
@@ -84,11 +90,27 @@ impl Scene {
             sensitivities,
             purposes,
             span,
+            stride: u32::MAX,
             narrow,
             effects,
             drafts: Vec::new(),
             tokens: Vec::new(),
         }
+    }
+
+    /// Spreads the effects of later drafts in another way.
+    pub fn change_effects(&mut self, random: &mut Random) {
+        self.effects = effects(self.profile, random, self.clock, self.span);
+    }
+
+    /// Forgets all drafts and tokens but the last ones tried, and the active
+    /// directives of the ledger.
+    pub fn forget(&mut self, ledger: &Ledger) {
+        let old = self.drafts.len().saturating_sub(LAST_TRIED);
+        let active = ledger.active().iter().map(Directive::fields);
+        self.drafts.splice(..old, active);
+        let old = self.tokens.len().saturating_sub(LAST_TRIED);
+        self.tokens.drain(..old);
     }
 
     /// The persons who are neither the patient nor an author.

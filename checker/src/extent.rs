@@ -1,0 +1,117 @@
+//! How many inputs go in parts, how many cards the cut of `cardcheck` decides,
+//! and how long the replays are.
+
+use std::fmt;
+
+use crate::bytes::Bytes;
+use crate::card;
+use crate::cardcheck::CARD_LIMIT;
+use crate::generate::{Input, InputKind, LONGEST, MANY_CALLS};
+use crate::replay::Call;
+
+#[derive(Clone, Debug, Default, PartialEq, Eq)]
+pub struct Extent {
+    pub cards_in_parts: usize,
+    pub replays_in_parts: usize,
+    /// Cards of more than 65,535 bytes that are answered otherwise without
+    /// byte 65,535, and with byte 65,536.
+    pub without_the_last: usize,
+    pub with_the_next: usize,
+    /// Calls of the longest replay.
+    pub calls: usize,
+    /// Bytes of the longest card and of the longest value that stand before a
+    /// call.
+    pub card: usize,
+    pub value: usize,
+}
+
+impl Extent {
+    /// Adds an input that is handed over in so many parts.
+    pub fn add(&mut self, input: &Input, parts: usize) {
+        match input.kind {
+            InputKind::Card => {
+                count(&mut self.cards_in_parts, parts > 1);
+                self.add_card(&input.bytes);
+            }
+            InputKind::Replay => {
+                count(&mut self.replays_in_parts, parts > 1);
+                self.add_replay(&input.bytes);
+            }
+        }
+    }
+
+    fn add_card(&mut self, bytes: &[u8]) {
+        let limit = usize::from(CARD_LIMIT);
+        if bytes.len() > limit {
+            let read = |length: usize| bytes.get(..length).map(card::read);
+            let answer = read(limit);
+            let less = read(limit.saturating_sub(1));
+            let more = read(limit.saturating_add(1));
+            count(&mut self.without_the_last, less != answer);
+            count(&mut self.with_the_next, more != answer);
+        }
+    }
+
+    fn add_replay(&mut self, bytes: &[u8]) {
+        let mut bytes = Bytes::new(bytes);
+        let length = bytes.u16().map(usize::from);
+        let Some(card) = length.and_then(|length| bytes.take(length)) else {
+            return;
+        };
+        let mut calls = 0;
+        let mut before = 0;
+        while let Some((tag, value)) = bytes.field() {
+            if Call::decode(tag, value).is_none() {
+                break;
+            }
+            count(&mut calls, true);
+            self.card = self.card.max(card.len());
+            self.value = self.value.max(before);
+            before = value.len();
+        }
+        self.calls = self.calls.max(calls);
+    }
+
+    /// What is measured, how much it is, and the least that is wanted.
+    fn rows(&self) -> [(&'static str, usize, usize); 7] {
+        [
+            ("cards in parts", self.cards_in_parts, 1),
+            ("replays in parts", self.replays_in_parts, 1),
+            ("cards that byte 65535 decides", self.without_the_last, 1),
+            ("cards that byte 65536 would decide", self.with_the_next, 1),
+            ("calls of the longest replay", self.calls, MANY_CALLS),
+            (
+                "bytes of the longest card before a call",
+                self.card,
+                LONGEST,
+            ),
+            (
+                "bytes of the longest value before a call",
+                self.value,
+                LONGEST,
+            ),
+        ]
+    }
+
+    /// Of what there is too little.
+    pub fn missing(&self) -> Vec<String> {
+        let rows = self.rows().into_iter();
+        rows.filter(|(_, measured, least)| measured < least)
+            .map(|(what, measured, least)| format!("{what} ({measured} of {least})"))
+            .collect()
+    }
+}
+
+fn count(number: &mut usize, one_more: bool) {
+    *number = number.saturating_add(usize::from(one_more));
+}
+
+/// The lines below the table of answers.
+impl fmt::Display for Extent {
+    fn fmt(&self, f: &mut fmt::Formatter<'_>) -> fmt::Result {
+        for (what, measured, _) in self.rows() {
+            writeln!(f, "{what} {measured}")?;
+        }
+        Ok(())
+    }
+}
