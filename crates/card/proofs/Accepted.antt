@@ -7,13 +7,13 @@ use native.Mathlib.Omega.{arith}
 use lib.ListN.{length}
 use Rattle.sets.specs.Quantifiers.{allIn}
 use Rattle.sets.proofs.Quantifiers.{and-both}
-use Rattle.meaning.specs.Judgement.{meant}
-use Rattle.model.specs.Questions.{passes}
-use Rattle.model.proofs.Questions.{passes-append}
-use Rattle.card.specs.Grammar.{fieldTag, valueSize, fieldValue, afterField, standsWhole}
+use Rattle.validation_meaning.specs.Judgement.{meant}
+use Rattle.ledger_model.specs.Questions.{passes}
+use Rattle.ledger_model.proofs.Questions.{passes-append}
+use Rattle.card.specs.Grammar.{fieldTag, fieldValue, afterField, standsWhole}
 use Rattle.card.specs.Reading.{Progress, hasPlace, valueQuestions, fieldQuestions, endQuestions, questionsFrom, readFrom}
 use Rattle.card.proofs.Step.{next, shorter, questions-field, read-field}
-use Rattle.card.proofs.Fields.{three-bytes, value-length}
+use Rattle.card.proofs.Fields.{three-bytes}
 
 -- After p was read, the rest s of the card passes its questions, and with it q is read.
 pub data Accepted : Progress → List ℕ → Progress → Type 0 where
@@ -23,17 +23,17 @@ pub data Accepted : Progress → List ℕ → Progress → Type 0 where
       Accepted (next p s) (afterField s) q → Accepted p s q
 
 -- A field that passes stands whole, its value has place and length, and the value's questions are passed.
-pub record Passed (p : Progress) (s : List ℕ) : Type 0 where
+pub record FieldPassed (p : Progress) (s : List ℕ) : Type 0 where
   pub whole : standsWhole s ≡ true
   pub placed : hasPlace p (fieldTag s) (length (fieldValue s)) ≡ true
   pub answered : passes (valueQuestions meant p (fieldTag s) (fieldValue s)) ≡ true
 
-pub passed-of : (p : Progress) (s : List ℕ) → passes (fieldQuestions meant p s) ≡ true → Passed p s
+pub passed-of : (p : Progress) (s : List ℕ) → passes (fieldQuestions meant p s) ≡ true → FieldPassed p s
 unfolding fieldQuestions allIn
 passed-of p s e =
     let (whole, rest) = and-both (standsWhole s) _ e in
-    let (placed, answered) = and-both (hasPlace p (fieldTag s) (valueSize s)) _ rest in
-    record { whole = whole; placed = rw (value-length s whole) placed; answered = answered }
+    let (placed, answered) = and-both (hasPlace p (fieldTag s) (length (fieldValue s))) _ rest in
+    record { whole = whole; placed = placed; answered = answered }
 
 there : (p : Progress) (s : List ℕ) → passes (fieldQuestions meant p s) ≡ true → 0 < length s
 there p s e = omega (arith, three-bytes s (passed-of p s e .whole))
@@ -67,9 +67,9 @@ accepted-of p s e = by (length s) p s (omega arith) e
     by zero p (x ∷ s) h e = absurd (omega arith)
     by (suc n) p [] h e = ended e
     by (suc n) p (x ∷ s) h e =
-        let allIn = x ∷ s in
-        let someIn : 0 < length allIn = omega arith in
-        let asked = sym (passes-append (fieldQuestions meant p allIn) _) ∙ sym (ap passes (questions-field meant p allIn someIn)) in
-        let (here, rest) = and-both (passes (fieldQuestions meant p allIn)) _ (asked ∙ e) in
-        rw (read-field p allIn someIn)
-        (one-more p allIn here (by n (next p allIn) (afterField allIn) (omega (arith, shorter x s)) rest))
+        let left = x ∷ s in
+        let more : 0 < length left = omega arith in
+        let asked = sym (passes-append (fieldQuestions meant p left) _) ∙ sym (ap passes (questions-field meant p left more)) in
+        let (here, rest) = and-both (passes (fieldQuestions meant p left)) _ (asked ∙ e) in
+        rw (read-field p left more)
+        (one-more p left here (by n (next p left) (afterField left) (omega (arith, shorter x s)) rest))

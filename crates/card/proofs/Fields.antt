@@ -49,9 +49,9 @@ module _ (tag : ℕ) (v rest : List ℕ) (short : length v < 65536) where
 
   pub whole-written : standsWhole (field tag v ++ rest) ≡ true
   whole-written =
-      let allIn = field tag v ++ rest in
-      let long : length allIn ≡ 3 + length v + length rest = length-append (field tag v) rest ∙ rw (length-field tag v) in
-      rw (size-written, le-leb 3 (length allIn) (omega arith)) (le-leb _ (length allIn) (omega arith))
+      let whole = field tag v ++ rest in
+      let long : length whole ≡ 3 + length v + length rest = length-append (field tag v) rest ∙ rw (length-field tag v) in
+      rw (size-written, le-leb 3 (length whole) (omega arith)) (le-leb _ (length whole) (omega arith))
 
 -- a field that stands whole
 module _ (s : List ℕ) (whole : standsWhole s ≡ true) where

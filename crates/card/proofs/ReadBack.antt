@@ -4,9 +4,9 @@ use mathlib.Core.Path.{_≡_, refl, sym, ap, _∙_}
 use mathlib.Core.Bool.{Bool, true}
 use mathlib.Core.List.{List, [], _∷_, _++_, append-assoc, append-nil, List·Memᴰ·head, Memᴰ·append-right}
 use native.Mathlib.Omega.{arith}
-use borrow.Author.Tests.{lt-ltb, le-leb, eq-eqb}
-use lib.ListN.{length, length-append}
-use lib.Seq.{getD-append-seam, append-snoc}
+use borrow.Author.Tests.{not-true, lt-ltb, le-leb, eq-eqb}
+use lib.ListN.{length, length-append, take}
+use lib.Seq.{take-append-seam, getD-append-seam, append-snoc}
 use lib.Dec.{eqb}
 use Rattle.sets.specs.Quantifiers.{allIn}
 use Rattle.sets.specs.Numbers.{numberAt}
@@ -14,25 +14,26 @@ use Rattle.sets.proofs.Quantifiers.{and-left, and-right, every-below, every-lis
 use Rattle.sets.proofs.Lists.{apart-before, some-alike}
 use Rattle.sets.proofs.PutLaws.{OneEach}
 use Rattle.register.specs.declared.Record.{Record}
-use Rattle.register.specs.Register.{noRecord}
+use Rattle.register.specs.Register.{rolePlaces, recordPlaces, noRecord}
 use Rattle.register.specs.Records.{recordAt}
 use Rattle.register.specs.Form.{recordSize, recordBytes, recordFits, recordWidths}
 use Rattle.register.proofs.FormLaws.{length-record, record-decode-encode}
 use Rattle.directive.specs.declared.Directive.{Directive}
-use Rattle.drafts.specs.Form.{draftSize, directiveBytes, wellFormed}
+use Rattle.drafts.specs.Form.{draftSize, draftOf, directiveBytes, wellFormed}
 use Rattle.drafts.proofs.FormLaws.{length-directive, decode-encode, ranges-kept}
-use Rattle.meaning.specs.Meaning.{conflict}
-use Rattle.meaning.specs.Judgement.{meant}
-use Rattle.meaning.proofs.ConflictLaws.{conflict-sym}
-use Rattle.model.specs.Model.{Model, withTokens}
-use Rattle.model.specs.Questions.{passes, inRegister, hasMinutes, activePlaces, directiveQuestions}
-use Rattle.model.specs.Sound.{stands, SoundModel}
+use Rattle.validation_meaning.specs.Meaning.{conflict}
+use Rattle.validation_meaning.specs.Judgement.{meant}
+use Rattle.validation_meaning.proofs.ConflictLaws.{conflict-sym}
+use Rattle.ledger_model.specs.Model.{Model, withTokens}
+use Rattle.ledger_model.specs.Questions.{passes, inRegister, hasMinutes}
+use Rattle.ledger_model.specs.Invariant.{stands, ModelInvariant}
+use Rattle.ledger_model.proofs.Passed.{passed-make}
 use Rattle.card.specs.Grammar.{tagOf, field}
 use Rattle.card.specs.Form.{headBytes}
 use Rattle.card.specs.Reading.{Progress, nothingRead, writtenEdition, hasPlace, valueQuestions, fieldQuestions, withHead, withField}
 use Rattle.card.specs.Writing.{writtenHead, recordFields, directiveFields, cardBytes}
 use Rattle.card.proofs.FormLaws.{length-head, head-decode-encode}
-use Rattle.card.proofs.Fields.{size-written, value-written, after-written, whole-written}
+use Rattle.card.proofs.Fields.{value-written, after-written, whole-written}
 use Rattle.card.proofs.Accepted.{Accepted, ended, one-more}
 use Rattle.card.proofs.ReadSound.{filled}
 use Rattle.card.proofs.Written.{one-a-record, one-a-directive}
@@ -46,7 +47,7 @@ unfolding fieldQuestions allIn
 accept-field {q} p tag v rest short placed passed accepted =
     let value = value-written tag v rest short in
     one-more {q = q} p (field tag v ++ rest)
-    (rw (whole-written tag v rest short, value, size-written tag v rest short, placed) passed)
+    (rw (whole-written tag v rest short, value, placed) passed)
     (rw (value, after-written tag v rest short) accepted)
 
 -- an element of a list, and what stands before it
@@ -58,10 +59,10 @@ module _ {A : Type 0} {l : List A} (before : List A) (a : A) (after : List A) (e
   fewer-before = rw (e, length-append) (omega arith)
 
 -- Fields for the elements of a list, where `at` is what was read with those before: if each is accepted, all are.
-module _ {A : Type 0} {fields : List A → List ℕ} {oneIf : A → List ℕ} (each : OneEach fields oneIf)
+module _ {A : Type 0} {fields : List A → List ℕ} {one : A → List ℕ} (each : OneEach fields one)
     (at : List A → Progress) (l : List A) (q : Progress)
     (accept : (before : List A) (a : A) (after : List A) → l ≡ before ++ a ∷ after → (rest : List ℕ) →
-    Accepted (at (before ++ (a ∷ []))) rest q → Accepted (at before) (oneIf a ++ rest) q) where
+    Accepted (at (before ++ (a ∷ []))) rest q → Accepted (at before) (one a ++ rest) q) where
   accept-from :
       (before after : List A) → l ≡ before ++ after → (rest : List ℕ) →
       Accepted (at l) rest q → Accepted (at before) (fields after ++ rest) q
@@ -86,12 +87,12 @@ partly m ps rs ds =
           };
     }
 
-head-read : (m : Model) → SoundModel m → withHead (headBytes (writtenHead m)) ≡ partly m [] [] []
+head-read : (m : Model) → ModelInvariant m → withHead (headBytes (writtenHead m)) ≡ partly m [] [] []
 head-read m h =
     let same = head-decode-encode (writtenHead m) refl (h .patient-in) (h .clock-in) in
     rw (ap (λ x. x .edition) same, ap (λ x. x .patient) same, ap (λ x. x .clock) same)
 
-module _ (m : Model) (h : SoundModel m) (a-record : 0 < length (m .register .records)) (q : Progress) where
+module _ (m : Model) (h : ModelInvariant m) (a-record : 0 < length (m .register .records)) (q : Progress) where
   -- a record passes 3 and 4 after those before it
   accept-record :
       (before : List Record) (r : Record) (after : List Record) → m .register .records ≡ before ++ r ∷ after →
@@ -104,13 +105,15 @@ module _ (m : Model) (h : SoundModel m) (a-record : 0 < length (m .register .rec
       let size = length-record r in
       let same = record-decode-encode r (all-here before r after e recordWidths (register .records-wide)) in
       let fewer = fewer-before before r after e in
-      let fit : recordFits (length before) (recordAt (m .register .records) (length before)) ≡ true =
+      let fit : recordFits (take (length before) (m .register .records)) (recordAt (m .register .records) (length before)) ≡ true =
       every-below _ .read _ (register .records-fit) (length before) fewer
       in
-      let fits : recordFits (length before) r ≡ true = rw (e, getD-append-seam before r after noRecord) at fit in
+      let fits : recordFits before r ≡ true =
+      rw (e, take-append-seam before (r ∷ after), getD-append-seam before r after noRecord) at fit
+      in
       accept-field (partly m (m .register .roles) before []) 0x03 (recordBytes r) rest (omega arith)
       (rw (filled (m .register .roles) a-role, eq-eqb (length (recordBytes r)) recordSize size))
-      (rw (lt-ltb (length before) 128 (omega (arith, register .records-few)), same, fits))
+      (rw (lt-ltb (length before) recordPlaces (omega (arith, register .records-few)), same, fits))
       (rw same accepted)
 
   -- a directive passes 7 to 13 after those before it
@@ -118,7 +121,6 @@ module _ (m : Model) (h : SoundModel m) (a-record : 0 < length (m .register .rec
       (before : List Directive) (d : Directive) (after : List Directive) → m .active ≡ before ++ d ∷ after →
       (rest : List ℕ) → Accepted (partly m (m .register .roles) (m .register .records) (before ++ (d ∷ []))) rest q →
       Accepted (partly m (m .register .roles) (m .register .records) before) (field 0x04 (directiveBytes d) ++ rest) q
-  unfolding allIn directiveQuestions
   accept-directive before d after e rest accepted =
       let size = length-directive d in
       let stood = all-here before d after e (stands m) (h .active-stand) in
@@ -134,20 +136,20 @@ module _ (m : Model) (h : SoundModel m) (a-record : 0 < length (m .register .rec
       in
       accept-field _ 0x04 (directiveBytes d) rest (omega arith)
       (rw (filled (m .register .records) a-record, eq-eqb (length (directiveBytes d)) draftSize size))
-      (rw (
-        ranges-kept d formed,
-        same,
-        there,
-        minutes,
-        free,
-        lt-ltb (length before) activePlaces (omega (arith, fewer-before before d after e, h .active-few)),
-        all-here before d after e _ (h .baseline-kept),
-        clear,
-      ))
+      (passed-make meant _ (draftOf (directiveBytes d))
+      (record {
+        ranges = ranges-kept d formed;
+        there = rw same there;
+        minutes = rw same minutes;
+        free = rw same free;
+        room = omega (arith, fewer-before before d after e, h .active-few);
+        spared = rw same (not-true _ (all-here before d after e _ (h .baseline-kept)));
+        clear = rw same clear;
+      }))
       (rw same accepted)
 
 pub accept-card :
-    (m : Model) → SoundModel m → 0 < length (m .register .records) →
+    (m : Model) → ModelInvariant m → 0 < length (m .register .records) →
     Accepted nothingRead (cardBytes m) (record { edition = writtenEdition; model = withTokens m [] })
 unfolding allIn cardBytes
 accept-card m h a-record =
@@ -171,6 +173,6 @@ accept-card m h a-record =
     (accept-field nothingRead 0x01 (headBytes (writtenHead m)) _ (omega (arith, length-head (writtenHead m))) (rw (length-head (writtenHead m))) (rw edition)
     (rw (head-read m h)
     (accept-field (partly m [] [] []) 0x02 ps _ (omega arith)
-    (rw (le-leb 1 (length ps) a-role, le-leb (length ps) 16 roles-few))
+    (rw (le-leb 1 (length ps) a-role, le-leb (length ps) rolePlaces roles-few))
     (rw (h .register .roles-tree))
     from-records)))

@@ -1,5 +1,5 @@
 -- What a card of bytes gives is sound, and so is what was read at any field of it.
-use Prim.Native.Nat.{ℕ, zero, suc, _<_, _≤_}
+use Prim.Native.Nat.{ℕ, _<_, _≤_}
 use mathlib.Core.Path.{_≡_, refl, ap}
 use mathlib.Core.Bool.{Bool, true, false, not}
 use mathlib.Core.List.{List, [], _∷_}
@@ -12,28 +12,29 @@ use Rattle.sets.specs.Numbers.{numberAt, isBytes}
 use Rattle.sets.proofs.Quantifiers.{both-ways, and-left, and-right}
 use Rattle.sets.proofs.Lists.{none-in, all-append, all-take, all-drop}
 use Rattle.sets.proofs.Numbers.{number-at-bound, bytes-are-bytes}
-use Rattle.register.specs.Register.{Contents}
+use Rattle.register.specs.Register.{rolePlaces, recordPlaces}
 use Rattle.register.specs.Form.{recordOf}
 use Rattle.register.proofs.FormLaws.{record-widths}
-use Rattle.directive.specs.declared.Directive.{Directive}
 use Rattle.drafts.specs.Form.{everyPurpose, withPurposes}
-use Rattle.meaning.specs.Judgement.{meant}
-use Rattle.model.specs.Model.{Model, emptyModel}
-use Rattle.model.specs.Answer.{done}
-use Rattle.model.specs.Questions.{passes}
-use Rattle.model.specs.Sound.{SoundRegister, stands, SoundModel}
-use Rattle.model.proofs.Questions.{outcome-by}
-use Rattle.model.proofs.Enrolled.{beginning-sound, empty-model-sound, sound-with, sound-roles, sound-record}
-use Rattle.model.proofs.Soundness.{sound-draft}
+use Rattle.drafts.proofs.FormLaws.{bytes-wide}
+use Rattle.validation_meaning.specs.Judgement.{meant}
+use Rattle.ledger_model.specs.Model.{Model, emptyModel}
+use Rattle.ledger_model.specs.Answer.{done}
+use Rattle.ledger_model.specs.Questions.{passes}
+use Rattle.ledger_model.specs.Invariant.{ModelInvariant}
+use Rattle.ledger_model.proofs.Questions.{outcome-by}
+use Rattle.ledger_model.proofs.Enrolled.{beginning-sound, empty-model-sound, sound-with, sound-roles, sound-record, no-directives}
+use Rattle.ledger_model.proofs.Passed.{passed-read}
+use Rattle.ledger_model.proofs.Soundness.{sound-passed}
 use Rattle.card.specs.Grammar.{Tag, head, roles, item, directive, other, fieldTag, fieldValue}
-use Rattle.card.specs.Reading.{Progress, nothingRead, isEmpty, lastEdition, hasPlace, valueQuestions, fieldQuestions, withField, cardQuestions, contentOf, reading}
+use Rattle.card.specs.Reading.{Progress, nothingRead, isEmpty, lastEdition, hasPlace, directiveDraft, valueQuestions, fieldQuestions, withField, cardQuestions, contentOf, reading}
 use Rattle.card.proofs.Step.{next}
 use Rattle.card.proofs.Fields.{value-bytes, after-bytes}
 use Rattle.card.proofs.Accepted.{Accepted, ended, one-more, passed-of, accepted-of}
 
 -- What was read so far is sound and has no tokens. Before the head nothing was read, and the edition is at most 2.
 pub record SoundSoFar (p : Progress) : Type 0 where
-  pub model : SoundModel (p .model)
+  pub model : ModelInvariant (p .model)
   pub no-tokens : p .model .tokens ≡ []
   pub before-head : p .edition ≡ 0 → p .model ≡ emptyModel
   pub edition-most : p .edition ≤ lastEdition
@@ -50,24 +51,6 @@ some-in (x ∷ l) e = omega arith
 pub filled : {A : Type 0} (l : List A) → 0 < length l → isEmpty l ≡ false
 filled l h = ne-eqb (length l) 0 (λ z. omega arith)
 
--- there are no records without roles, and no directive stands without records
-pub no-records : (c : Contents) → SoundRegister c → length (c .roles) ≡ 0 → c .records ≡ []
-no-records c h e = none-in (c .records) (by (length (c .records)) (h .roles-with-records))
-  where
-    by : (n : ℕ) → (0 < n → 0 < length (c .roles)) → n ≡ 0
-    by zero f = refl
-    by (suc n) f = absurd (omega (arith, f (omega arith)))
-
-none-stand : (m : Model) (ds : List Directive) → allIn (stands m) ds ≡ true → length (m .register .records) ≡ 0 → ds ≡ []
-unfolding allIn
-none-stand m [] e z = refl
-none-stand m (d ∷ ds) e z =
-    absurd (omega (arith, ltb-true (d .«record») (length (m .register .records)) (search (and-left, and-right))))
-
-pub no-directives : (m : Model) → SoundModel m → length (m .register .roles) ≡ 0 → m .active ≡ []
-no-directives m h e =
-    none-stand m (m .active) (h .active-stand) (ap length (no-records (m .register) (h .register) e))
-
 -- the 25 bytes that a directive's value stands for are bytes
 draft-bytes : (v : List ℕ) → isBytes v ≡ true → (first : Bool) → isBytes (pick first (withPurposes v) v) ≡ true
 unfolding withPurposes
@@ -77,7 +60,7 @@ draft-bytes v e false = e
 module _ (p : Progress) (h : SoundSoFar p) where
   -- what is there was read after the head
   begun : (f : Model → ℕ) → f emptyModel ≡ 0 → 0 < f (p .model) → 0 < p .edition
-  begun f none someIn = after (p .edition) (λ z. omega (arith, ap f (h .before-head z)))
+  begun f none there = after (p .edition) (λ z. omega (arith, ap f (h .before-head z)))
     where
       after : (n : ℕ) → (n ≡ 0 → ⊥) → 0 < n
       after n unread = omega arith
@@ -97,7 +80,7 @@ module _ (p : Progress) (h : SoundSoFar p) where
   -- the model with one field more
   sound-model :
       (t : Tag) (v : List ℕ) → isBytes v ≡ true → hasPlace p t (length v) ≡ true →
-      passes (valueQuestions meant p t v) ≡ true → SoundModel (withField p t v .model)
+      passes (valueQuestions meant p t v) ≡ true → ModelInvariant (withField p t v .model)
   unfolding allIn pairwise
   sound-model head v e placed passed = beginning-sound _ _ (number-at-bound 1 2 v e) (number-at-bound 3 4 v e)
   sound-model roles v e placed passed =
@@ -106,7 +89,7 @@ module _ (p : Progress) (h : SoundSoFar p) where
       sound-with (p .model) _ (h .model)
       (no-directives (p .model) (h .model) (eqb-true _ 0 empty))
       (sound-roles (p .model .register) (h .model .register) v
-      (leb-true (length v) 16 (search (and-left, and-right)))
+      (leb-true (length v) rolePlaces (search (and-left, and-right)))
       (and-left _ _ passed)
       (λ _. least))
   sound-model item v e placed passed =
@@ -116,11 +99,12 @@ module _ (p : Progress) (h : SoundSoFar p) where
       (none-in (p .model .active) (eqb-true _ 0 none))
       (sound-record c (h .model .register) (recordOf v)
       (some-in (c .roles) (search and-left))
-      (ltb-true (length (c .records)) 128 (search and-left))
+      (ltb-true (length (c .records)) recordPlaces (search and-left))
       (search (and-left, and-right))
       (record-widths v e))
   sound-model directive v e placed passed =
-      sound-draft (p .model) (h .model) _ (draft-bytes v e (eqb (p .edition) 1)) passed
+      let s = directiveDraft (p .edition) v in
+      sound-passed (p .model) (h .model) s (bytes-wide _ (draft-bytes v e (eqb (p .edition) 1))) (passed-read meant (p .model) s passed)
   sound-model other v e placed passed = both-ways placed refl
 
   no-token :
@@ -161,9 +145,9 @@ sound-rest (one-more p s e rest) h b = sound-rest rest (sound-field p h s b e) (
 pub content-sound : (s : List ℕ) → isBytes s ≡ true → passes (cardQuestions s) ≡ true → SoundSoFar (contentOf s)
 content-sound s b e = sound-rest (accepted-of nothingRead s e) nothing-sound b
 
-pub reading-sound : (s : List ℕ) → isBytes s ≡ true → SoundModel (reading s .model)
+pub reading-sound : (s : List ℕ) → isBytes s ≡ true → ModelInvariant (reading s .model)
 reading-sound s b =
-    outcome-by (λ o. SoundModel (o .model)) (cardQuestions s) emptyModel
+    outcome-by (λ o. ModelInvariant (o .model)) (cardQuestions s) emptyModel
     (record { answer = done []; model = contentOf s .model })
     (λ e. content-sound s b e .model)
     (λ _ _. empty-model-sound)

@@ -11,10 +11,10 @@ use lib.Dec.{leb}
 use Rattle.sets.specs.Quantifiers.{pick, allIn}
 use Rattle.sets.proofs.Quantifiers.{every-list}
 use Rattle.sets.proofs.Lists.{all-append}
-use Rattle.meaning.specs.Judgement.{Judgement, meant}
-use Rattle.model.specs.Answer.{done, refusal}
-use Rattle.model.specs.Questions.{Question, directiveQuestions}
-use Rattle.model.proofs.Questions.{first-of}
+use Rattle.validation_meaning.specs.Judgement.{Judgement, meant}
+use Rattle.ledger_model.specs.Answer.{done, refusal}
+use Rattle.ledger_model.specs.Questions.{Question, directiveQuestions}
+use Rattle.ledger_model.proofs.Questions.{first-of}
 use Rattle.card.specs.Grammar.{Tag, head, roles, item, directive, other, fieldTag, fieldValue, afterField}
 use Rattle.card.specs.Reading.{Progress, nothingRead, isEmpty, valueQuestions, fieldQuestions, withField, endQuestions, questionsFrom, cardQuestions, reading}
 

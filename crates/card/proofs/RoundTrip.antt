@@ -7,11 +7,11 @@ use lib.ListN.{length}
 use Rattle.sets.specs.Quantifiers.{allIn}
 use Rattle.sets.specs.Numbers.{isBytes}
 use Rattle.sets.proofs.Quantifiers.{and-left, and-right}
-use Rattle.model.specs.Model.{Model, withTokens, emptyModel}
-use Rattle.model.specs.Answer.{done}
-use Rattle.model.specs.Questions.{passes}
-use Rattle.model.specs.Sound.{SoundModel}
-use Rattle.model.proofs.Questions.{outcome-passed}
+use Rattle.ledger_model.specs.Model.{Model, withTokens, emptyModel}
+use Rattle.ledger_model.specs.Answer.{done}
+use Rattle.ledger_model.specs.Questions.{passes}
+use Rattle.ledger_model.specs.Invariant.{ModelInvariant}
+use Rattle.ledger_model.proofs.Questions.{outcome-passed}
 use Rattle.card.specs.Reading.{nothingRead, writtenEdition, cardQuestions, contentOf, reading}
 use Rattle.card.specs.Writing.{cardBytes}
 use Rattle.card.proofs.Accepted.{accepted-passes, accepted-read, accepted-end, accepted-of}
@@ -21,7 +21,7 @@ use Rattle.card.proofs.WriteBack.{accepted-written}
 
 -- "Reading a written card restores its patient, register, clock and directives"
 pub read-back :
-    (m : Model) → SoundModel m → 0 < length (m .register .records) →
+    (m : Model) → ModelInvariant m → 0 < length (m .register .records) →
     reading (cardBytes m) ≡ record { answer = done []; model = withTokens m [] }
 read-back m h a-record =
     let accepted = accept-card m h a-record in

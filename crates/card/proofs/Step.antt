@@ -8,11 +8,11 @@ use native.Mathlib.Omega.{arith}
 use lib.ListN.{length, length-drop}
 use lib.Dec.{eqb·suc-zero}
 use Rattle.sets.specs.Quantifiers.{pick}
-use Rattle.meaning.specs.Judgement.{Judgement}
-use Rattle.model.specs.Model.{emptyModel}
-use Rattle.model.specs.Answer.{done}
-use Rattle.model.specs.Questions.{firstNo, passes, Outcome, outcome}
-use Rattle.model.proofs.Questions.{outcome-passed, outcome-missed, outcome-append}
+use Rattle.validation_meaning.specs.Judgement.{Judgement}
+use Rattle.ledger_model.specs.Model.{emptyModel}
+use Rattle.ledger_model.specs.Answer.{done}
+use Rattle.ledger_model.specs.Questions.{firstNo, passes, Outcome, outcome}
+use Rattle.ledger_model.proofs.Questions.{outcome-passed, outcome-missed, outcome-append}
 use Rattle.card.specs.Grammar.{fieldTag, valueSize, fieldValue, afterField}
 use Rattle.card.specs.Reading.{Progress, isEmpty, fieldQuestions, withField, endQuestions, questionsFrom, readFrom}
 
@@ -41,10 +41,10 @@ module _ {R : Type 0} (walk : ℕ → Progress → List ℕ → R) (finish : Pro
   none zero p = first p []
   none (suc n) p = then n p []
 
-  someIn :
+  some :
       (n x : ℕ) (p : Progress) (s : List ℕ) →
       walk (suc n) p (x ∷ s) ≡ more p (x ∷ s) (walk n (next p (x ∷ s)) (afterField (x ∷ s)))
-  someIn n x p s = then n p (x ∷ s) ∙ rw (eqb·suc-zero (length s))
+  some n x p s = then n p (x ∷ s) ∙ rw (eqb·suc-zero (length s))
 
   same : (n k : ℕ) (p : Progress) (s : List ℕ) → length s ≤ n → length s ≤ k → walk n p s ≡ walk k p s
   same zero k p [] h l = none zero p ∙ sym (none k p)
@@ -53,16 +53,16 @@ module _ {R : Type 0} (walk : ℕ → Progress → List ℕ → R) (finish : Pro
   same (suc n) zero p (x ∷ s) h l = absurd (omega arith)
   same (suc n) (suc k) p (x ∷ s) h l =
       let short = shorter x s in
-      someIn n x p s
+      some n x p s
       ∙ ap (more p (x ∷ s)) (same n k (next p (x ∷ s)) (afterField (x ∷ s)) (omega arith) (omega arith))
-      ∙ sym (someIn k x p s)
+      ∙ sym (some k x p s)
 
   field :
       (p : Progress) (s : List ℕ) → 0 < length s →
       walk (length s) p s ≡ more p s (walk (length (afterField s)) (next p s) (afterField s))
   field p [] h = absurd (omega arith)
   field p (x ∷ s) h =
-      someIn (length s) x p s
+      some (length s) x p s
       ∙ ap (more p (x ∷ s)) (same _ _ (next p (x ∷ s)) (afterField (x ∷ s)) (shorter x s) (omega arith))
 
   walks : Walks walk finish more

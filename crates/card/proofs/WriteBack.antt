@@ -14,10 +14,12 @@ use Rattle.sets.proofs.Lists.{none-in}
 use Rattle.sets.proofs.PutLaws.{fields-snoc}
 use Rattle.register.specs.Form.{recordSize, recordOf}
 use Rattle.register.proofs.FormLaws.{record-encode-decode}
-use Rattle.drafts.specs.Form.{draftSize, draftOf, keepsRanges, directiveOf}
+use Rattle.drafts.specs.Form.{draftSize, draftOf, directiveOf}
 use Rattle.drafts.proofs.FormLaws.{encode-decode}
-use Rattle.meaning.specs.Judgement.{meant}
-use Rattle.model.specs.Questions.{passes, directiveQuestions}
+use Rattle.validation_meaning.specs.Judgement.{meant}
+use Rattle.ledger_model.specs.Questions.{passes}
+use Rattle.ledger_model.proofs.Enrolled.{no-records, no-directives}
+use Rattle.ledger_model.proofs.Passed.{passed-read}
 use Rattle.card.specs.Grammar.{Tag, head, roles, item, directive, other, tagOf, field, fieldTag, fieldValue, afterField}
 use Rattle.card.specs.Form.{headSize, headBytes}
 use Rattle.card.specs.Reading.{Progress, nothingRead, isEmpty, writtenEdition, hasPlace, valueQuestions, withHead, withField}
@@ -25,7 +27,7 @@ use Rattle.card.specs.Writing.{writtenHead, recordFields, directiveField
 use Rattle.card.proofs.FormLaws.{head-encode-decode}
 use Rattle.card.proofs.Fields.{value-bytes, after-bytes, field-parts}
 use Rattle.card.proofs.Accepted.{Accepted, ended, one-more, passed-of, accepted-end}
-use Rattle.card.proofs.ReadSound.{SoundSoFar, nothing-sound, filled, no-records, no-directives, edition-read, sound-field}
+use Rattle.card.proofs.ReadSound.{SoundSoFar, nothing-sound, filled, edition-read, sound-field}
 use Rattle.card.proofs.Written.{one-a-record, one-a-directive}
 
 -- the tag byte b, known by its tag
@@ -84,7 +86,7 @@ module _ (p : Progress) (h : SoundSoFar p) where
       (b : ℕ) (t : Tag) (v : List ℕ) → isBytes v ≡ true → hasPlace p t (length v) ≡ true →
       passes (valueQuestions meant p t v) ≡ true → withField p t v .edition ≡ writtenEdition →
       soFar (withField p t v) ≡ soFar p ++ field (tagByte b t) v
-  unfolding tagByte allIn recordFields directiveFields directiveQuestions
+  unfolding tagByte allIn recordFields directiveFields
   so-far-value b head v e placed passed edition =
       let first : eqb (p .edition) 0 ≡ true = search and-left in
       let size = eqb-true (length v) headSize (search and-right) in
@@ -115,7 +117,7 @@ module _ (p : Progress) (h : SoundSoFar p) where
   so-far-value b directive v e placed passed edition =
       let c = p .model .register in
       let long : eqb (length v) draftSize ≡ true = and-right (not (isEmpty (c .records))) _ (rw edition at placed) in
-      let ranges : keepsRanges (draftOf v) ≡ true = and-left (keepsRanges (draftOf v)) _ (rw edition at passed) in
+      let ranges = passed-read meant (p .model) (draftOf v) (rw edition at passed) .ranges in
       rw (
         edition,
         fields-snoc one-a-directive (p .model .active) (directiveOf (draftOf v)),

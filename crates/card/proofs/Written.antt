@@ -20,8 +20,8 @@ use Rattle.register.proofs.FormLaws.{length-record, record-are-bytes}
 use Rattle.directive.specs.declared.Directive.{Directive}
 use Rattle.drafts.specs.Form.{directiveBytes}
 use Rattle.drafts.proofs.FormLaws.{length-directive, directive-are-bytes}
-use Rattle.model.specs.Model.{Model}
-use Rattle.model.specs.Sound.{SoundModel}
+use Rattle.ledger_model.specs.Model.{Model}
+use Rattle.ledger_model.specs.Invariant.{ModelInvariant}
 use Rattle.card.specs.Grammar.{field}
 use Rattle.card.specs.Form.{headBytes}
 use Rattle.card.specs.Writing.{writtenHead, recordFields, directiveFields, cardBytes}
@@ -80,7 +80,7 @@ module _ (m : Model) where
         fields-length one-a-directive 28 directive-field-size (m .active),
       )
 
-  module _ (h : SoundModel m) where
+  module _ (h : ModelInvariant m) where
     pub longest-card : length (cardBytes m) ≤ 2589
     longest-card = omega (arith, length-card)
 

@@ -1,6 +1,6 @@
 -- What each case of reading's and writing's answers means, in document 01's numbers and values.
 use mathlib.Core.List.{[], _∷_}
-use Rattle.model.specs.Answer.{Answer, done, refused}
+use Rattle.ledger_model.specs.Answer.{Answer, done, refused}
 use Rattle.ledger.specs.Answer.{directiveAnswer}
 use Rattle.card.specs.declared.ReadAnswer.{ReadAnswer}
 use Rattle.card.specs.declared.ReadAnswer.the-variants.{Accepted, NotWhole, Misplaced, TooManyRecords, OutOfRange, Refused, Incomplete}

@@ -4,7 +4,7 @@ use mathlib.Core.Path.{_≡_}
 use mathlib.Core.List.{List}
 use Rattle.ledger.specs.declared.Ledger.{Ledger}
 use Rattle.ledger.specs.State.{view, emptyLedger}
-use Rattle.ledger.specs.Sound.{Sound}
+use Rattle.ledger.specs.Invariant.{Invariant}
 use Rattle.ledger.specs.Promises.{Gives}
 use Rattle.card.specs.declared.ReadResult.{ReadResult}
 use Rattle.card.specs.declared.WriteAnswer.{WriteAnswer}
@@ -17,11 +17,11 @@ use Rattle.card.specs.Writing.{writing, buffered}
 abbrev pub Reads : List ℕ → ReadResult → Type 0
 Reads card r = Gives emptyLedger (reading card) (readAnswer (r .answer)) (r .ledger)
 
--- Writing a sound ledger into a lent buffer: the answer, and every byte of the buffer after it. On a ledger that is not sound
--- both are free.
+-- Writing a ledger that keeps the invariant into a lent buffer: the answer, and every byte of the buffer after it. On any other
+-- ledger both are free.
 pub record Fills (l : Ledger) (before : List ℕ) (a : WriteAnswer) (after : List ℕ) : Type 0 where
   pub answer : writeAnswer a ≡ writing (view l) before
   pub buffer : after ≡ buffered (view l) before
 
 abbrev pub Writes : Ledger → List ℕ → WriteAnswer → List ℕ → Type 0
-Writes l before a after = Sound l → Fills l before a after
+Writes l before a after = Invariant l → Fills l before a after

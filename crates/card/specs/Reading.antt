@@ -5,16 +5,18 @@ use mathlib.Core.List.{List, [], _∷_, _++_}
 use lib.ListN.{length}
 use lib.Dec.{eqb, leb, ltb}
 use Rattle.sets.specs.Quantifiers.{pick}
+use Rattle.register.specs.Register.{rolePlaces, recordPlaces}
 use Rattle.register.specs.Tree.{isTree}
 use Rattle.register.specs.Form.{recordSize, recordOf, recordFits}
 use Rattle.drafts.specs.declared.Draft.{Draft}
 use Rattle.drafts.specs.Form.{draftSize, firstEditionSize, draftOf, withPurposes, directiveOf}
-use Rattle.meaning.specs.Judgement.{Judgement, meant}
-use Rattle.model.specs.Model.{Model, beginning, emptyModel, withRegister, withActive}
-use Rattle.model.specs.Answer.{done, refusal}
-use Rattle.model.specs.Questions.{Question, ask, Outcome, outcome, directiveQuestions}
+use Rattle.validation_meaning.specs.Judgement.{Judgement, meant}
+use Rattle.ledger_model.specs.Model.{Model, beginning, emptyModel, withRegister}
+use Rattle.ledger_model.specs.Answer.{done, refusal}
+use Rattle.ledger_model.specs.Questions.{Question, ask, Outcome, outcome, directiveQuestions}
+use Rattle.ledger_model.specs.Calls.{withLast}
 use Rattle.card.specs.Form.{headSize, headOf}
-use Rattle.card.specs.Grammar.{Tag, head, roles, item, directive, other, fieldTag, valueSize, fieldValue, afterField, standsWhole}
+use Rattle.card.specs.Grammar.{Tag, head, roles, item, directive, other, fieldTag, fieldValue, afterField, standsWhole}
 
 -- What was read so far: the edition (0 before the head), and patient, clock, register and directives.
 pub record Progress : Type 0 where
@@ -42,7 +44,7 @@ directiveSize edition = pick (eqb edition 1) firstEditionSize draftSize
 -- any 0x04"; 0x04 "after the records (at least one)". "Any other tag has no place."
 abbrev pub hasPlace : Progress → Tag → ℕ → Bool
 hasPlace p head n = eqb (p .edition) 0 && eqb n headSize
-hasPlace p roles n = ltb 0 (p .edition) && isEmpty (p .model .register .roles) && leb 1 n && leb n 16
+hasPlace p roles n = ltb 0 (p .edition) && isEmpty (p .model .register .roles) && leb 1 n && leb n rolePlaces
 hasPlace p item n = not (isEmpty (p .model .register .roles)) && isEmpty (p .model .active) && eqb n recordSize
 hasPlace p directive n = not (isEmpty (p .model .register .records)) && eqb n (directiveSize (p .edition))
 hasPlace p other n = false
@@ -57,18 +59,19 @@ abbrev pub valueQuestions : Judgement → Progress → Tag → List ℕ → List
 valueQuestions j p head v = ask 4 (leb 1 (headOf v .edition) && leb (headOf v .edition) lastEdition) ∷ []
 valueQuestions j p roles v = ask 4 (isTree v) ∷ []
 valueQuestions j p item v =
-    ask 3 (ltb (length (p .model .register .records)) 128)
-    ∷ ask 4 (recordFits (length (p .model .register .records)) (recordOf v))
+    ask 3 (ltb (length (p .model .register .records)) recordPlaces)
+    ∷ ask 4 (recordFits (p .model .register .records) (recordOf v))
     ∷ []
 valueQuestions j p directive v = directiveQuestions j (p .model) (directiveDraft (p .edition) v)
 valueQuestions j p other v = []
 
--- "Each card field: does it stand whole in the card? 1. Has it its place and length? 2." and so on
+-- the questions of a field that stands whole, of its tag and its value: "Has it its place and length? 2." and so on
+abbrev pub placedQuestions : Judgement → Progress → Tag → List ℕ → List Question
+placedQuestions j p t v = ask 2 (hasPlace p t (length v)) ∷ valueQuestions j p t v
+
+-- "Each card field: does it stand whole in the card? 1." and then the others
 unfoldable pub fieldQuestions : Judgement → Progress → List ℕ → List Question
-fieldQuestions j p s =
-    ask 1 (standsWhole s)
-    ∷ ask 2 (hasPlace p (fieldTag s) (valueSize s))
-    ∷ valueQuestions j p (fieldTag s) (fieldValue s)
+fieldQuestions j p s = ask 1 (standsWhole s) ∷ placedQuestions j p (fieldTag s) (fieldValue s)
 
 -- what was read with one field more
 abbrev pub withHead : List ℕ → Progress
@@ -78,8 +81,7 @@ abbrev pub withModel : Progress → Model → Progress
 withModel p m = record { edition = p .edition; model = m }
 
 abbrev pub withDirective : Progress → List ℕ → Progress
-withDirective p v =
-    withModel p (withActive (p .model) (p .model .active ++ (directiveOf (directiveDraft (p .edition) v) ∷ [])))
+withDirective p v = withModel p (withLast (p .model) (directiveOf (directiveDraft (p .edition) v)))
 
 abbrev pub withField : Progress → Tag → List ℕ → Progress
 withField p head v = withHead v

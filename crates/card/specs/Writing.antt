@@ -9,9 +9,9 @@ use Rattle.register.specs.declared.Record.{Record}
 use Rattle.register.specs.Form.{recordBytes}
 use Rattle.directive.specs.declared.Directive.{Directive}
 use Rattle.drafts.specs.Form.{directiveBytes}
-use Rattle.model.specs.Model.{Model}
-use Rattle.model.specs.Answer.{Answer, done}
-use Rattle.model.specs.Questions.{Question, ask, firstNo, passes}
+use Rattle.ledger_model.specs.Model.{Model}
+use Rattle.ledger_model.specs.Answer.{Answer, done}
+use Rattle.ledger_model.specs.Questions.{Question, ask, firstNo, passes}
 use Rattle.card.specs.declared.form.Head.{Head}
 use Rattle.card.specs.Form.{headBytes}
 use Rattle.card.specs.Grammar.{field}

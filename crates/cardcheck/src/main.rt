@@ -5,13 +5,13 @@ use libc::STDOUT_FILENO;
 ghost use mathlib.Core.List.{[]};
 ghost use Rattle.card.specs.Reading.{cardLine};
 ghost use Rattle.text.specs.Text.{lineText};
-ghost use Rattle.text.specs.Puts.{Begins};
+ghost use Rattle.text.specs.Puts.{StartsWith};
 
 // The line of the card with these bytes, at the start of the buffer; its length.
 fn reply(card: &[u8], out: &mut [u8; 85]) -> usize
-    ensures { λ r. ⌜ Begins (now (out .exit)) r (lineText (cardLine (now (card .entry))) []) ⌝ }
+    ensures { λ r. ⌜ StartsWith (now (out .exit)) r (lineText (cardLine (now (card .entry))) []) ⌝ }
 {
-    let line = reading::check::check(card);
+    let line = card_reading::check::check(card);
     let numbers = [line.refusal, line.records as u64, line.directives as u64, 0];
     text::line::put_line(out, numbers, 3, &card[..0])
 }

@@ -11,11 +11,11 @@ use Rattle.sets.specs.Quantifiers.{allIn}
 use Rattle.sets.specs.Numbers.{isBytes}
 use Rattle.sets.proofs.Quantifiers.{and-left}
 use Rattle.ledger.specs.declared.Ledger.{Ledger}
-use Rattle.model.specs.Model.{Model, withTokens}
+use Rattle.ledger_model.specs.Model.{Model, withTokens}
 use Rattle.ledger.specs.State.{view}
-use Rattle.model.specs.Answer.{done}
-use Rattle.model.specs.Questions.{passes}
-use Rattle.model.proofs.Questions.{first-passed}
+use Rattle.ledger_model.specs.Answer.{done}
+use Rattle.ledger_model.specs.Questions.{passes}
+use Rattle.ledger_model.proofs.Questions.{first-passed}
 use Rattle.card.specs.declared.ReadResult.{ReadResult}
 use Rattle.card.specs.declared.WriteAnswer.{WriteAnswer}
 use Rattle.card.specs.Answer.{readAnswer, writeAnswer}
@@ -24,7 +24,7 @@ use Rattle.card.specs.Writing.{writeQuestions, cardBytes, writing, buffered}
 use Rattle.card.specs.Promises.{Reads, Writes}
 use Rattle.card.proofs.ReadSound.{some-in, filled}
 use Rattle.card.proofs.RoundTrip.{a-record-read, read-back, write-back}
-use Rattle.demands.specs.Runs.{Meant}
+use Rattle.demands.specs.Runs.{Reachable}
 use Rattle.demands.proofs.Runs.{meant-sound}
 
 -- a write that passes its questions puts the card at the start of the buffer
@@ -37,16 +37,16 @@ card-in-front m before after e passed =
 
 pub read-written :
     (l : Ledger) (before : List ℕ) (a : WriteAnswer) (after : List ℕ) (r : ReadResult) →
-    Meant l → Writes l before a after → passes (writeQuestions (view l) before) ≡ true →
+    Reachable l → Writes l before a after → passes (writeQuestions (view l) before) ≡ true →
     Reads (take (length (cardBytes (view l))) after) r →
     (readAnswer (r .answer) ≡ done []) × (view (r .ledger) ≡ withTokens (view l) [])
 unfolding allIn
 read-written l before a after r k writes passed reads =
     let m = view l in
-    let sound = meant-sound l k in
+    let invariant = meant-sound l k in
     let a-record = some-in (m .register .records) (and-left _ _ passed) in
-    let same = card-in-front m before after (writes sound .buffer) passed in
-    let back = ap reading same ∙ read-back m (sound .model) a-record in
+    let same = card-in-front m before after (writes invariant .buffer) passed in
+    let back = ap reading same ∙ read-back m (invariant .model) a-record in
     (reads .answer ∙ ap (λ o. o .answer) back, reads .ledger ∙ ap (λ o. o .model) back)
 
 pub written-read :
@@ -57,7 +57,7 @@ pub written-read :
 unfolding allIn writing
 written-read card r before a after b reads e edition long writes =
     let m = view (r .ledger) in
-    let fills = writes (reads .sound) in
+    let fills = writes (reads .invariant) in
     let same = ap cardBytes (reads .ledger) ∙ write-back card b e edition in
     let as-long = ap length same in
     let as-many = ap (λ n. length (n .register .records)) (reads .ledger) in

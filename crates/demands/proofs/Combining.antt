@@ -11,21 +11,21 @@ use Rattle.directive.specs.declared.Directive.{Directive}
 use Rattle.directive.specs.declared.Request.{Request}
 use Rattle.directive.specs.declared.Query.{Query}
 use Rattle.directive.specs.Matching.{matches, requestAt}
-use Rattle.meaning.specs.Requests.{persons, InRange}
+use Rattle.validation_meaning.specs.Requests.{persons, InRange}
 use Rattle.ledger.specs.declared.Ledger.{Ledger}
 use Rattle.ledger.specs.declared.answer.DecideAnswer.{DecideAnswer}
-use Rattle.model.specs.Model.{Model}
+use Rattle.ledger_model.specs.Model.{Model}
 use Rattle.ledger.specs.State.{view}
 use Rattle.directive.specs.Lowest.{lowest}
-use Rattle.model.specs.Decision.{matching, isPatient, isAuthor, decision}
-use Rattle.model.specs.Xacml.{Result, Permit, Deny, NotApplicable, isPermit, isDeny, denyOverrides, permitOverrides, resultOf, results, directivesSay, effectOf}
-use Rattle.model.specs.Questions.{passes, decideQuestions}
-use Rattle.model.specs.Sound.{SoundModel}
-use Rattle.ledger.specs.Sound.{Sound}
+use Rattle.ledger_model.specs.Decision.{matching, isPatient, isAuthor, decision}
+use Rattle.ledger_model.specs.Xacml.{Result, Permit, Deny, NotApplicable, isPermit, isDeny, denyOverrides, permitOverrides, resultOf, results, directivesSay, effectOf}
+use Rattle.ledger_model.specs.Questions.{passes, decideQuestions}
+use Rattle.ledger_model.specs.Invariant.{ModelInvariant}
+use Rattle.ledger.specs.Invariant.{Invariant}
 use Rattle.ledger.specs.Promises.{Decides}
-use Rattle.model.proofs.Lowest.{lowest-is}
-use Rattle.model.proofs.Clash.{no-clash-at}
-use Rattle.model.proofs.Saying.{in-range-now, said-effect}
+use Rattle.ledger_model.proofs.Lowest.{lowest-is}
+use Rattle.ledger_model.proofs.Clash.{no-clash-at}
+use Rattle.ledger_model.proofs.Saying.{in-range-now, said-effect}
 use Rattle.demands.specs.Demands.{effectAndBasis, effectValues}
 use Rattle.demands.proofs.Decisions.{decided-kept}
 
@@ -51,7 +51,7 @@ module _ {A : Type 0} (p : A → Bool) where
 
 -- all active directives that match a request in range are of one effect
 one-effect :
-    (m : Model) → SoundModel m → (d e : Directive) → List·Memᴰ d (m .active) → List·Memᴰ e (m .active) →
+    (m : Model) → ModelInvariant m → (d e : Directive) → List·Memᴰ d (m .active) → List·Memᴰ e (m .active) →
     (q : Request) → InRange (m .register) (m .clock) q →
     matches (m .register) d q ≡ true → matches (m .register) e q ≡ true → d .permit ≡ e .permit
 one-effect m h d e i j q range by-d by-e =
@@ -99,7 +99,7 @@ by-permit Deny = refl
 by-permit NotApplicable = refl
 
 module _
-    (m : Model) (h : SoundModel m) (q : Query) (person : q .person < persons)
+    (m : Model) (h : ModelInvariant m) (q : Query) (person : q .person < persons)
     (passed : passes (decideQuestions m q) ≡ true)
   where
     results-say :
@@ -121,7 +121,7 @@ module _
 
 -- "outside the baseline a combined NotApplicable leads to basis 4", and another result to its effect and basis 3
 pub by-combined :
-    (l : Ledger) → Sound l → (q : Query) (a : DecideAnswer) → q .person < persons → Decides l q a →
+    (l : Ledger) → Invariant l → (q : Query) (a : DecideAnswer) → q .person < persons → Decides l q a →
     passes (decideQuestions (view l) q) ≡ true → isPatient (view l) q ≡ false → isAuthor (view l) q ≡ false →
     (effectAndBasis a ≡ effectValues (effectOf (view l) q (denyOverrides (results (view l) q))))
     × (effectAndBasis a ≡ effectValues (effectOf (view l) q (permitOverrides (results (view l) q))))

@@ -9,17 +9,17 @@ use Rattle.directive.specs.declared.Query.{Query}
 use Rattle.ledger.specs.declared.Ledger.{Ledger}
 use Rattle.ledger.specs.declared.answer.DecideAnswer.{DecideAnswer}
 use Rattle.ledger.specs.State.{view}
-use Rattle.model.specs.Answer.{done, values}
+use Rattle.ledger_model.specs.Answer.{done, values}
 use Rattle.ledger.specs.Answer.{decideAnswer}
-use Rattle.model.specs.Decision.{isPatient, isAuthor, decision, decisionValues}
-use Rattle.model.specs.Questions.{passes, decideQuestions}
-use Rattle.model.specs.Calls.{decided}
-use Rattle.ledger.specs.Sound.{Sound}
+use Rattle.ledger_model.specs.Decision.{isPatient, isAuthor, decision, decisionValues}
+use Rattle.ledger_model.specs.Questions.{passes, decideQuestions}
+use Rattle.ledger_model.specs.Calls.{decided}
+use Rattle.ledger.specs.Invariant.{Invariant}
 use Rattle.ledger.specs.Promises.{Decides}
-use Rattle.model.proofs.Questions.{first-passed}
+use Rattle.ledger_model.proofs.Questions.{first-passed}
 
 module _
-    (l : Ledger) (h : Sound l) (q : Query) (a : DecideAnswer) (decides : Decides l q a)
+    (l : Ledger) (h : Invariant l) (q : Query) (a : DecideAnswer) (decides : Decides l q a)
     (passed : passes (decideQuestions (view l) q) ≡ true)
   where
     pub decided-kept : decideAnswer a ≡ done (decisionValues (decision (view l) q))

@@ -4,12 +4,12 @@ use mathlib.Core.Path.{_≡_, refl, ap, _∙_}
 use mathlib.Core.Bool.{true}
 use mathlib.Core.List.{List}
 use Rattle.ledger.specs.declared.Ledger.{Ledger}
-use Rattle.model.specs.Model.{Model}
-use Rattle.model.specs.Answer.{Answer, done, refused, accepted}
-use Rattle.model.specs.Questions.{Question, firstNo, passes, outcome}
-use Rattle.model.specs.Calls.{committedBy, revoked, advanced, issued, decided, briefed}
+use Rattle.ledger_model.specs.Model.{Model}
+use Rattle.ledger_model.specs.Answer.{Answer, done, refused, accepted}
+use Rattle.ledger_model.specs.Questions.{Question, firstNo, passes, outcome}
+use Rattle.ledger_model.specs.Calls.{committedBy, revoked, advanced, issued, decided, briefed}
 use Rattle.ledger.specs.Promises.{Gives}
-use Rattle.model.proofs.Questions.{first-passed}
+use Rattle.ledger_model.proofs.Questions.{first-passed}
 use Rattle.card.specs.Writing.{writing, buffered}
 use Rattle.demands.specs.Demands.{FirstMissed, Answered, Succeeds, Demand1}
 use Rattle.demands.proofs.Passing.{first-missed, missed-fails}

@@ -1,6 +1,6 @@
 -- Demand 3, clause by clause, of the ledger after any list of calls on the ledger of an accepted card.
 use Rattle.ledger.specs.State.{view}
-use Rattle.model.proofs.Clash.{no-clash-at}
+use Rattle.ledger_model.proofs.Clash.{no-clash-at}
 use Rattle.demands.specs.Demands.{Demand3}
 use Rattle.demands.proofs.Runs.{run-sound, run-model}
 use Rattle.demands.proofs.Counting.{run-balance}
@@ -10,7 +10,7 @@ use Rattle.demands.proofs.Ordering.{order-kept}
 
 pub demand3 : Demand3
 demand3 card r cs rs l _ _ reads run =
-    let begun = reads .sound in
+    let begun = reads .invariant in
     let h = run-sound begun run in
     let same = run-model begun run in
     record {

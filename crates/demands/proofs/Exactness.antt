@@ -1,35 +1,35 @@
 -- A draft that passes questions 6 to 12 is refused 13 exactly when some request is matched by it and an opposite active
 -- directive, otherwise 14 exactly when every request that it matches is matched by some active directive, and else accepted.
 use Prim.Native.Nat.{ℕ}
-use mathlib.Core.Path.{_≡_, refl, sym, _∙_}
+use mathlib.Core.Path.{_≡_, refl, sym, ap, _∙_}
 use mathlib.Core.Bool.{Bool, true, false, _&&_, not}
 use mathlib.Core.Logic.{⊎-elim}
 use mathlib.Core.List.{List, []}
 use borrow.Author.Tests.{not-true}
 use lib.Dec.{eqb}
-use lib.ListN.{drop}
 use Rattle.sets.specs.Quantifiers.{pick, implies, someIn}
 use Rattle.sets.proofs.Quantifiers.{same-test, either-way, both-ways, and-both, implies-of, implies-at, some-list}
 use Rattle.directive.specs.declared.Directive.{Directive}
 use Rattle.directive.specs.Matching.{matches}
-use Rattle.meaning.specs.Requests.{everyRequest, someRequest}
-use Rattle.meaning.specs.Meaning.{sameEffect, conflict, redundant}
-use Rattle.meaning.specs.Judgement.{meant}
-use Rattle.meaning.proofs.Requests.{every-request, some-request}
-use Rattle.meaning.proofs.ConflictLaws.{conflict-read, conflict-make}
-use Rattle.meaning.proofs.RedundantLaws.{covered-read, covered-make, redundant-read, redundant-make}
+use Rattle.validation_meaning.specs.Requests.{everyRequest, someRequest}
+use Rattle.validation_meaning.specs.Meaning.{sameEffect, conflict, redundant}
+use Rattle.validation_meaning.specs.Judgement.{meant}
+use Rattle.validation_meaning.proofs.Requests.{every-request, some-request}
+use Rattle.validation_meaning.proofs.ConflictLaws.{conflict-read, conflict-make}
+use Rattle.validation_meaning.proofs.InclusionLaws.{covered-read, covered-make, included-read, included-make}
 use Rattle.ledger.specs.declared.Ledger.{Ledger}
 use Rattle.ledger.specs.declared.answer.CommitResult.{CommitResult}
-use Rattle.model.specs.Model.{Model}
+use Rattle.ledger_model.specs.Model.{Model}
 use Rattle.ledger.specs.State.{view}
-use Rattle.model.specs.Answer.{Answer, done, refused, refusal}
+use Rattle.ledger_model.specs.Answer.{Answer, done, refused, refusal}
 use Rattle.ledger.specs.Answer.{commitAnswer}
 use Rattle.directive.specs.Lowest.{lowestNumber}
-use Rattle.model.specs.Questions.{firstNo, passes, before, conflicting, directiveQuestions, draftQuestions}
-use Rattle.model.specs.Calls.{drafted, committedBy, committed}
-use Rattle.ledger.specs.Sound.{Sound}
+use Rattle.ledger_model.specs.Questions.{firstNo, passes, questionsBefore, conflicting, bytesQuestions}
+use Rattle.ledger_model.specs.Calls.{drafted, committedBy, committed}
+use Rattle.ledger.specs.Invariant.{Invariant}
 use Rattle.ledger.specs.Promises.{Commits}
-use Rattle.model.proofs.Questions.{first-append, first-passed}
+use Rattle.ledger_model.proofs.Questions.{first-append, first-passed}
+use Rattle.ledger_model.proofs.Passed.{from-13}
 use Rattle.demands.specs.Demands.{opposed, matchedByActive, refusedWith, Exact}
 
 module _ (m : Model) (d : Directive) where
@@ -71,15 +71,15 @@ module _ (m : Model) (d : Directive) where
       (λ t.
       every-request c (m .clock) .make _ λ q range.
       implies-of (matches c d q) _ λ by-d.
-      let (e, i, same, by-e) = covered-read c d (m .active) q (redundant-read c (m .clock) d (m .active) t q range by-d) in
+      let (e, i, same, by-e) = covered-read c (sameEffect d) (m .active) q (included-read c (m .clock) (sameEffect d) d (m .active) t q range by-d) in
       some-list (m .active) .make _ e i by-e)
       (λ t.
-      redundant-make c (m .clock) d (m .active) λ q range by-d.
+      included-make c (m .clock) (sameEffect d) d (m .active) λ q range by-d.
       let (e, i, by-e) =
       some-list (m .active) .read _ (implies-at (matches c d q) _ (every-request c (m .clock) .read _ t q range) by-d)
       in
       ⊎-elim
-      (λ same. covered-make c d (m .active) q e i same by-e)
+      (λ same. covered-make c (sameEffect d) (m .active) q e i same by-e)
       (λ opposite.
       both-ways
       (some-list (m .active) .make _ e i
@@ -92,15 +92,14 @@ module _ (m : Model) (d : Directive) where
 abbrev lateAnswer : Bool → Bool → List ℕ → Answer
 lateAnswer clash repeat named = pick (not clash) (pick (not repeat) (done []) (refused 14 [])) (refused 13 named)
 
--- questions 6 to 12 are the first seven
 late-answer :
-    (m : Model) (s : List ℕ) → passes (before 13 (draftQuestions meant m s)) ≡ true →
+    (m : Model) (s : List ℕ) → passes (questionsBefore 13 (bytesQuestions meant m s)) ≡ true →
     committed m s .answer
     ≡ lateAnswer (clashes m (drafted s)) (repeats m (drafted s)) (lowestNumber (conflicting meant m (drafted s)))
-unfolding committedBy draftQuestions directiveQuestions before firstNo
+unfolding committedBy firstNo
 late-answer m s passed =
-    let qs = draftQuestions meant m s in
-    first-append (before 13 qs) (drop 7 qs) (done []) ∙ first-passed (before 13 qs) _ passed
+    let early = questionsBefore 13 (bytesQuestions meant m s) in
+    ap (λ qs. firstNo qs (done [])) (from-13 meant m s) ∙ first-append early _ (done []) ∙ first-passed early _ passed
 
 module _ (named : List ℕ) where
   is-thirteen : (clash repeat : Bool) → eqb (refusal (lateAnswer clash repeat named)) 13 ≡ clash
@@ -113,8 +112,8 @@ module _ (named : List ℕ) where
   is-fourteen false = refl
 
 pub draft-exact :
-    (l : Ledger) → Sound l → (s : List ℕ) (r : CommitResult) → Commits l s r →
-    passes (before 13 (draftQuestions meant (view l) s)) ≡ true → Exact l s r
+    (l : Ledger) → Invariant l → (s : List ℕ) (r : CommitResult) → Commits l s r →
+    passes (questionsBefore 13 (bytesQuestions meant (view l) s)) ≡ true → Exact l s r
 draft-exact l h s r commits passed =
     let m = view l in
     let d = drafted s in

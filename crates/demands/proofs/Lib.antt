@@ -9,4 +9,3 @@ pub mod Exactness
 pub mod Cards
 pub mod DemandTwo
 pub mod DemandThree
-pub mod Clauses

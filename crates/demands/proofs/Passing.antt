@@ -3,8 +3,8 @@ use mathlib.Core.Path.{_≡_}
 use mathlib.Core.Bool.{false}
 use mathlib.Core.List.{List}
 use Rattle.sets.specs.Quantifiers.{allIn}
-use Rattle.model.specs.Answer.{Answer, refused}
-use Rattle.model.specs.Questions.{Question, firstNo, passes}
+use Rattle.ledger_model.specs.Answer.{Answer, refused}
+use Rattle.ledger_model.specs.Questions.{Question, firstNo, passes}
 use Rattle.demands.specs.Demands.{FirstMissed, here, later}
 
 pub first-missed :

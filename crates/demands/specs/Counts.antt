@@ -4,30 +4,29 @@ use Prim.Native.Nat.{ℕ, _+_}
 use mathlib.Core.List.{List, [], _∷_}
 use lib.ListN.{getD}
 use Rattle.sets.specs.Quantifiers.{oneIf}
-use Rattle.model.specs.Answer.{Answer, accepted, values}
-use Rattle.model.specs.Calls.{Call, commit, revoke, advance, issue}
+use Rattle.ledger_model.specs.Answer.{Answer, accepted, values}
+use Rattle.ledger_model.specs.Calls.{Call, commit, revoke, advance, issue}
 
--- what the calls with their answers add up to, where a call with its answer adds f
-unfoldable pub total : (Call → Answer → ℕ) → List Call → List Answer → ℕ
-total f [] rs = 0
-total f (c ∷ cs) [] = 0
-total f (c ∷ cs) (a ∷ rs) = f c a + total f cs rs
+pub record Counts : Type 0 where
+  pub accepted : ℕ
+  pub revoked : ℕ
+  pub expired : ℕ
 
-abbrev pub acceptedOne : Call → Answer → ℕ
-acceptedOne (commit s) a = oneIf (accepted a)
-acceptedOne (revoke n) a = 0
-acceptedOne (advance t) a = 0
-acceptedOne (issue n p states minutes) a = 0
+abbrev pub counting : ℕ → ℕ → ℕ → Counts
+counting x y z = record { accepted = x; revoked = y; expired = z }
 
-abbrev pub revokedOne : Call → Answer → ℕ
-revokedOne (commit s) a = 0
-revokedOne (revoke n) a = oneIf (accepted a)
-revokedOne (advance t) a = 0
-revokedOne (issue n p states minutes) a = 0
+-- what a call with its answer adds; an advance reports the directives first
+abbrev pub countsOf : Call → Answer → Counts
+countsOf (commit s) a = counting (oneIf (accepted a)) 0 0
+countsOf (revoke n) a = counting 0 (oneIf (accepted a)) 0
+countsOf (advance t) a = counting 0 0 (getD (values a) 0 0)
+countsOf (issue n p states minutes) a = counting 0 0 0
 
--- an advance reports the directives first
-abbrev pub expiredOf : Call → Answer → ℕ
-expiredOf (commit s) a = 0
-expiredOf (revoke n) a = 0
-expiredOf (advance t) a = getD (values a) 0 0
-expiredOf (issue n p states minutes) a = 0
+abbrev pub plus : Counts → Counts → Counts
+plus x y = counting (x .accepted + y .accepted) (x .revoked + y .revoked) (x .expired + y .expired)
+
+-- what the calls with their answers add up to
+unfoldable pub totals : List Call → List Answer → Counts
+totals [] rs = counting 0 0 0
+totals (c ∷ cs) [] = counting 0 0 0
+totals (c ∷ cs) (a ∷ rs) = plus (countsOf c a) (totals cs rs)

@@ -3,7 +3,7 @@
 use Prim.Native.Nat.{ℕ, _+_, _<_, _≤_}
 use mathlib.Core.Path.{_≡_}
 use mathlib.Core.Bool.{Bool, true, false, _&&_, not}
-use mathlib.Core.List.{List, [], _∷_, _++_, map, List·Memᴰ}
+use mathlib.Core.List.{List, [], _∷_, _++_, map, List·Memᴰ, List·Permᴰ}
 use lib.ListN.{length, take, drop}
 use lib.Dec.{eqb}
 use Rattle.sets.specs.Quantifiers.{implies, oneIf, someIn}
@@ -12,9 +12,9 @@ use Rattle.directive.specs.declared.Directive.{Directive}
 use Rattle.directive.specs.declared.Request.{Request}
 use Rattle.directive.specs.declared.Query.{Query}
 use Rattle.directive.specs.Matching.{matches}
-use Rattle.meaning.specs.Requests.{persons, everyRequest, someRequest, InRange}
-use Rattle.meaning.specs.Meaning.{sameEffect}
-use Rattle.meaning.specs.Judgement.{meant}
+use Rattle.validation_meaning.specs.Requests.{persons, everyRequest, someRequest, InRange}
+use Rattle.validation_meaning.specs.Meaning.{sameEffect}
+use Rattle.validation_meaning.specs.Judgement.{meant}
 use Rattle.ledger.specs.declared.Ledger.{Ledger}
 use Rattle.ledger.specs.declared.answer.CommitResult.{CommitResult}
 use Rattle.ledger.specs.declared.answer.RevokeResult.{RevokeResult}
@@ -22,15 +22,15 @@ use Rattle.ledger.specs.declared.answer.AdvanceResult.{AdvanceResult}
 use Rattle.ledger.specs.declared.answer.IssueResult.{IssueResult}
 use Rattle.ledger.specs.declared.answer.BriefAnswer.{BriefAnswer}
 use Rattle.ledger.specs.declared.answer.DecideAnswer.{DecideAnswer}
-use Rattle.model.specs.Model.{Model, withTokens}
+use Rattle.ledger_model.specs.Model.{Model, withTokens}
 use Rattle.ledger.specs.State.{view, emptyLedger}
-use Rattle.model.specs.Answer.{Answer, done, refused, accepted, refusal, values}
+use Rattle.ledger_model.specs.Answer.{Answer, done, refused, accepted, refusal, values}
 use Rattle.ledger.specs.Answer.{commitAnswer, revokeAnswer, advanceAnswer, issueAnswer, briefAnswer, decideAnswer}
-use Rattle.model.specs.Decision.{matching, isPatient, isAuthor, decision, decisionValues}
-use Rattle.model.specs.Xacml.{Effect, directivesSay, denyOverrides, permitOverrides, results, effectOf}
-use Rattle.model.specs.Questions.{Question, passes, before, draftQuestions, revokeQuestions, advanceQuestions, decideQuestions, issueQuestions, briefQuestions}
-use Rattle.model.specs.Calls.{commit, advance, Call, drafted, afterCommit, afterRevoke, afterAdvance, afterIssue, dropped, briefValues, decided, briefed, modelAfter, answers}
-use Rattle.model.specs.Compatible.{compatible, Reordered}
+use Rattle.ledger_model.specs.Decision.{matching, isPatient, isAuthor, decision, decisionValues}
+use Rattle.ledger_model.specs.Xacml.{Effect, directivesSay, denyOverrides, permitOverrides, results, effectOf}
+use Rattle.ledger_model.specs.Questions.{Question, passes, questionsBefore, bytesQuestions, revokeQuestions, advanceQuestions, decideQuestions, issueQuestions, briefQuestions}
+use Rattle.ledger_model.specs.Calls.{commit, advance, Call, drafted, afterCommit, afterRevoke, afterAdvance, afterIssue, dropped, briefValues, decided, briefed, modelAfter, answers}
+use Rattle.ledger_model.specs.Compatible.{compatible}
 use Rattle.ledger.specs.Promises.{Commits, Revokes, Advances, Issues, Decides, Briefs}
 use Rattle.card.specs.declared.ReadResult.{ReadResult}
 use Rattle.card.specs.declared.WriteAnswer.{WriteAnswer}
@@ -38,8 +38,8 @@ use Rattle.card.specs.Answer.{readAnswer, writeAnswer}
 use Rattle.card.specs.Reading.{cardQuestions, contentOf, reading, writtenEdition}
 use Rattle.card.specs.Writing.{writeQuestions, cardBytes, writing, buffered}
 use Rattle.card.specs.Promises.{Reads, Writes}
-use Rattle.demands.specs.Runs.{Run, Meant}
-use Rattle.demands.specs.Counts.{total, acceptedOne, revokedOne, expiredOf}
+use Rattle.demands.specs.Runs.{Run, Reachable}
+use Rattle.demands.specs.Counts.{totals}
 
 -- The first question of a list that is missed.
 pub data FirstMissed : List Question → Question → Type 0 where
@@ -76,33 +76,33 @@ pub record Demand1 : Type 0 where
       Answered (cardQuestions card) (Succeeds [] (contentOf card .model)) emptyLedger (readAnswer (r .answer)) (r .ledger)
   -- a draft of any length and content
   pub commit :
-      (l : Ledger) (s : List ℕ) (r : CommitResult) → Meant l → isBytes s ≡ true → Commits l s r →
-      Answered (draftQuestions meant (view l) s) (Succeeds [] (afterCommit (view l) s)) l
+      (l : Ledger) (s : List ℕ) (r : CommitResult) → Reachable l → isBytes s ≡ true → Commits l s r →
+      Answered (bytesQuestions meant (view l) s) (Succeeds [] (afterCommit (view l) s)) l
       (commitAnswer (r .answer))
       (r .ledger)
   pub revoke :
-      (l : Ledger) (n : ℕ) (r : RevokeResult) → Meant l → Revokes l n r →
+      (l : Ledger) (n : ℕ) (r : RevokeResult) → Reachable l → Revokes l n r →
       Answered (revokeQuestions (view l) n) (Succeeds [] (afterRevoke (view l) n)) l (revokeAnswer (r .answer)) (r .ledger)
   pub advance :
-      (l : Ledger) (t : ℕ) (r : AdvanceResult) → Meant l → Advances l t r →
+      (l : Ledger) (t : ℕ) (r : AdvanceResult) → Reachable l → Advances l t r →
       Answered (advanceQuestions (view l) t) (Succeeds (dropped (view l) t) (afterAdvance (view l) t)) l
       (advanceAnswer (r .answer))
       (r .ledger)
   pub issue :
-      (l : Ledger) (n p states minutes : ℕ) (r : IssueResult) → Meant l → Issues l n p states minutes r →
+      (l : Ledger) (n p states minutes : ℕ) (r : IssueResult) → Reachable l → Issues l n p states minutes r →
       Answered (issueQuestions (view l) n states minutes) (Succeeds [] (afterIssue (view l) n p states minutes)) l
       (issueAnswer (r .answer))
       (r .ledger)
   -- decide and brief give an answer alone: the ledger stays with the caller
   pub decide :
-      (l : Ledger) (q : Query) (a : DecideAnswer) → Meant l → Decides l q a →
+      (l : Ledger) (q : Query) (a : DecideAnswer) → Reachable l → Decides l q a →
       Answered (decideQuestions (view l) q) (Tells (decisionValues (decision (view l) q))) tt (decideAnswer a) tt
   pub brief :
-      (l : Ledger) (n p : ℕ) (a : BriefAnswer) → Meant l → Briefs l n p a →
+      (l : Ledger) (n p : ℕ) (a : BriefAnswer) → Reachable l → Briefs l n p a →
       Answered (briefQuestions (view l) n p) (Tells (briefValues (view l) n p)) tt (briefAnswer a) tt
   -- a lent buffer: the card's bytes, then what stood there; after a refusal every byte as it was
   pub write :
-      (l : Ledger) (before : List ℕ) (a : WriteAnswer) (after : List ℕ) → Meant l → Writes l before a after →
+      (l : Ledger) (before : List ℕ) (a : WriteAnswer) (after : List ℕ) → Reachable l → Writes l before a after →
       Answered (writeQuestions (view l) before) (Filled (cardBytes (view l)) before) before (writeAnswer a) after
 
 -- the effect (1 permit, 0 deny) and the basis of a decide's answer
@@ -114,33 +114,33 @@ effectValues e = oneIf (e .permit) ∷ e .basis ∷ []
 
 -- DEMAND 2. "Decisions, briefs and cards are those of document 01, after the two consent papers it names."
 pub record Demand2 : Type 0 where
-  pub decisions : (l : Ledger) (q : Query) (a : DecideAnswer) → Meant l → Decides l q a → decideAnswer a ≡ decided (view l) q
-  pub briefs : (l : Ledger) (n p : ℕ) (a : BriefAnswer) → Meant l → Briefs l n p a → briefAnswer a ≡ briefed (view l) n p
+  pub decisions : (l : Ledger) (q : Query) (a : DecideAnswer) → Reachable l → Decides l q a → decideAnswer a ≡ decided (view l) q
+  pub briefs : (l : Ledger) (n p : ℕ) (a : BriefAnswer) → Reachable l → Briefs l n p a → briefAnswer a ≡ briefed (view l) n p
   pub cards-read :
       (card : List ℕ) (r : ReadResult) → isBytes card ≡ true → Reads card r →
       (readAnswer (r .answer) ≡ reading card .answer) × (view (r .ledger) ≡ reading card .model)
   pub cards-written :
-      (l : Ledger) (before : List ℕ) (a : WriteAnswer) (after : List ℕ) → Meant l → Writes l before a after →
+      (l : Ledger) (before : List ℕ) (a : WriteAnswer) (after : List ℕ) → Reachable l → Writes l before a after →
       (writeAnswer a ≡ writing (view l) before) × (after ≡ buffered (view l) before)
   -- "What the directives say is what XACML 3.0's deny-overrides says over the active ones,
   pub deny-overrides :
-      (l : Ledger) (q : Query) → Meant l → q .person < persons → passes (decideQuestions (view l) q) ≡ true →
+      (l : Ledger) (q : Query) → Reachable l → q .person < persons → passes (decideQuestions (view l) q) ≡ true →
       directivesSay (matching (view l) q) ≡ denyOverrides (results (view l) q)
   -- and equally its permit-overrides";
   pub permit-overrides :
-      (l : Ledger) (q : Query) → Meant l → q .person < persons → passes (decideQuestions (view l) q) ≡ true →
+      (l : Ledger) (q : Query) → Reachable l → q .person < persons → passes (decideQuestions (view l) q) ≡ true →
       directivesSay (matching (view l) q) ≡ permitOverrides (results (view l) q)
   -- "outside the baseline a combined NotApplicable leads to basis 4", and another result to its effect and basis 3, whichever
   -- of the two combines.
   pub combined :
-      (l : Ledger) (q : Query) (a : DecideAnswer) → Meant l → q .person < persons → Decides l q a →
+      (l : Ledger) (q : Query) (a : DecideAnswer) → Reachable l → q .person < persons → Decides l q a →
       passes (decideQuestions (view l) q) ≡ true → isPatient (view l) q ≡ false → isAuthor (view l) q ≡ false →
       (effectAndBasis a ≡ effectValues (effectOf (view l) q (denyOverrides (results (view l) q))))
       × (effectAndBasis a ≡ effectValues (effectOf (view l) q (permitOverrides (results (view l) q))))
   -- "Reading a written card restores its patient, register, clock and directives"; a card has no tokens.
   pub read-written :
       (l : Ledger) (before : List ℕ) (a : WriteAnswer) (after : List ℕ) (r : ReadResult) →
-      Meant l → Writes l before a after → passes (writeQuestions (view l) before) ≡ true →
+      Reachable l → Writes l before a after → passes (writeQuestions (view l) before) ≡ true →
       Reads (take (length (cardBytes (view l))) after) r →
       (readAnswer (r .answer) ≡ done []) × (view (r .ledger) ≡ withTokens (view l) [])
   -- "writing an accepted edition 2 card restores its bytes."
@@ -185,8 +185,8 @@ pub record Kept (card : List ℕ) (cs : List Call) (rs : List Answer) (l : Ledge
   pub ledger-kept : view l ≡ modelAfter (reading card .model) cs
   -- "and active = read + accepted - revoked - expired."
   pub balance :
-      length (view l .active) + total revokedOne cs rs + total expiredOf cs rs
-      ≡ length (reading card .model .active) + total acceptedOne cs rs
+      length (view l .active) + totals cs rs .revoked + totals cs rs .expired
+      ≡ length (reading card .model .active) + totals cs rs .accepted
   -- "Every decide call that passes question 17 gives document 01's decision on that ledger,
   pub decided-kept :
       (q : Query) (a : DecideAnswer) → Decides l q a → passes (decideQuestions (view l) q) ≡ true →
@@ -207,11 +207,11 @@ pub record Kept (card : List ℕ) (cs : List Call) (rs : List Answer) (l : Ledge
   -- the two exact clauses, of every draft
   pub exact :
       (s : List ℕ) (r : CommitResult) → isBytes s ≡ true → Commits l s r →
-      passes (before 13 (draftQuestions meant (view l) s)) ≡ true → Exact l s r
+      passes (questionsBefore 13 (bytesQuestions meant (view l) s)) ≡ true → Exact l s r
   -- "Drafts that stand beside each other, committed in any two orders, leave every decide call the same effect and basis, now
   -- and after the same advances." `now` is the empty list of advances.
   pub order :
-      (ss ts : List (List ℕ)) (minutes : List ℕ) → compatible (view l) ss ≡ true → Reordered ss ts →
+      (ss ts : List (List ℕ)) (minutes : List ℕ) → compatible (view l) ss ≡ true → List·Permᴰ ss ts →
       (l₁ m₁ l₂ m₂ : Ledger) (rs₁ xs₁ rs₂ xs₂ : List Answer) →
       Run l (map commit ss) rs₁ l₁ → Run l₁ (map advance minutes) xs₁ m₁ →
       Run l (map commit ts) rs₂ l₂ → Run l₂ (map advance minutes) xs₂ m₂ →

@@ -10,9 +10,9 @@ use Rattle.ledger.specs.declared.answer.RevokeResult.{RevokeResult}
 use Rattle.ledger.specs.declared.answer.AdvanceResult.{AdvanceResult}
 use Rattle.ledger.specs.declared.answer.IssueResult.{IssueResult}
 use Rattle.ledger.specs.State.{emptyLedger}
-use Rattle.model.specs.Answer.{Answer}
+use Rattle.ledger_model.specs.Answer.{Answer}
 use Rattle.ledger.specs.Answer.{commitAnswer, revokeAnswer, advanceAnswer, issueAnswer}
-use Rattle.model.specs.Calls.{Call, commit, revoke, advance, issue}
+use Rattle.ledger_model.specs.Calls.{Call, commit, revoke, advance, issue}
 use Rattle.ledger.specs.Promises.{Commits, Revokes, Advances, Issues}
 use Rattle.card.specs.declared.ReadResult.{ReadResult}
 use Rattle.card.specs.Promises.{Reads}
@@ -42,7 +42,7 @@ pub data Run : Ledger → List Call → List Answer → Ledger → Type 0 where
       Called l c a m → Run m cs rs n → Run l (c ∷ cs) (a ∷ rs) n
 
 -- "The ledgers meant in this paper are the empty one, what reading gives, and what the calls make of these."
-pub data Meant : Ledger → Type 0 where
-  empty : Meant emptyLedger
-  reading : (card : List ℕ) (r : ReadResult) → isBytes card ≡ true → Reads card r → Meant (r .ledger)
-  calling : {l m : Ledger} {c : Call} {a : Answer} → Meant l → Called l c a m → Meant m
+pub data Reachable : Ledger → Type 0 where
+  empty : Reachable emptyLedger
+  reading : (card : List ℕ) (r : ReadResult) → isBytes card ≡ true → Reads card r → Reachable (r .ledger)
+  calling : {l m : Ledger} {c : Call} {a : Answer} → Reachable l → Called l c a m → Reachable m

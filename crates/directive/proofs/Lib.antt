@@ -1,5 +1,4 @@
 pub mod MatchLaws
 pub mod SelectLaws
 pub mod LowestLaws
-pub mod SelectionLaws
 pub mod MetLaws

@@ -27,15 +27,21 @@ subjectCovers roles (Role n) p r = covers roles n r
 abbrev pub inMinutes : ℕ → ℕ → ℕ → Bool
 inMinutes from until m = leb from m && ltb m until
 
+-- all but the subject, for record x, origin o, purpose u and minute m: "subject origins and purposes cover it, the record is
+-- selected, and from <= minute < until"
+unfoldable pub appliesTo : Contents → Directive → ℕ → ℕ → ℕ → ℕ → Bool
+appliesTo c d x o u m =
+    bit o (d .«subject_origins»)
+    && bit u (d .purposes)
+    && selects (c .records) d x
+    && inMinutes (d .from) (d .until) m
+
 -- "A directive matches it when subject, subject origins and purposes cover it, the record is selected, and
 -- from <= minute < until."
 unfoldable pub matches : Contents → Directive → Request → Bool
 matches c d q =
     subjectCovers (c .roles) (d .subject) (q .person) (q .role)
-    && bit (q .origin) (d .«subject_origins»)
-    && bit (q .purpose) (d .purposes)
-    && selects (c .records) d (q .«record»)
-    && inMinutes (d .from) (d .until) (q .minute)
+    && appliesTo c d (q .«record») (q .origin) (q .purpose) (q .minute)
 
 -- the request that a query is at a minute
 abbrev pub requestAt : Query → ℕ → Request

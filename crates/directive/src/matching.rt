@@ -2,13 +2,12 @@
 use crate::Directive;
 use crate::Request;
 use crate::Subject;
-use register::records::Node;
 ghost use mathlib.Core.Path.{_≡_};
 ghost use mathlib.Core.List.{List};
 ghost use lib.ListN.{take};
 ghost use Rattle.register.specs.declared.Record.{Record as Held};
 ghost use Rattle.register.specs.Register.{holding};
-ghost use Rattle.register.specs.Nodes.{NodeOf};
+ghost use Rattle.directive.specs.Selection.{selects};
 ghost use Rattle.directive.specs.Matching.{subjectCovers, matches};
 
 // Whether the subject covers the person in the role, among the first `count` roles by their parents.
@@ -21,10 +20,13 @@ pub fn subject_covers(s: Subject, parents: &[u8; 16], count: usize, person: u16,
     }
 }
 
-// Whether the directive matches the request, n being the record asked for.
-pub fn matches(parents: &[u8; 16], count: usize, n: Node, d: Directive, q: Request) -> bool
-    ensures { λ b. ⌜ ((rs : List Held) → NodeOf rs (q .«record») n → b ≡ matches (holding (take count (now (parents .entry))) rs) d q) ⌝ }
+// Whether the directive matches the request; `selected` tells whether it selects the record asked for.
+pub fn matches(parents: &[u8; 16], count: usize, d: Directive, q: Request, selected: bool) -> bool
+    ensures { λ b. ⌜ ((rs : List Held) → selected ≡ selects rs d (q .«record») → b ≡ matches (holding (take count (now (parents .entry))) rs) d q) ⌝ }
 {
+    if !selected {
+        return false;
+    }
     if q.minute < d.from {
         return false;
     }
@@ -38,8 +40,5 @@ pub fn matches(parents: &[u8; 16], count: usize, n: Node, d: Directive, q: Reque
         return false;
     }
     let s = d.subject;
-    if !subject_covers(s, parents, count, q.person, q.role) {
-        return false;
-    }
-    crate::selection::selects(n, d)
+    subject_covers(s, parents, count, q.person, q.role)
 }

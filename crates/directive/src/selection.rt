@@ -2,17 +2,12 @@
 use crate::Directive;
 use register::Record;
 use register::Register;
-use register::records::Node;
-use sets::words::Words;
+use sets::record_set::RecordSet;
 ghost use mathlib.Core.Path.{_≡_};
 ghost use mathlib.Core.Bool.{_&&_, _||_};
-ghost use mathlib.Core.List.{List};
-ghost use Prim.Native.Nat.{ℕ, _<_};
 ghost use lib.Dec.{eqb, ltb};
-ghost use Rattle.sets.specs.Words.{contains, wordsOf};
-ghost use Rattle.register.specs.declared.Record.{Record as Held};
+ghost use Rattle.sets.specs.RecordSets.{contains, recordSetOf};
 ghost use Rattle.register.specs.Register.{contents};
-ghost use Rattle.register.specs.Nodes.{NodeOf};
 ghost use Rattle.directive.specs.Selection.{passesFilters, selects};
 
 fn wide(b: u8) -> u16
@@ -34,22 +29,8 @@ pub fn passes_filters(r: Record, d: Directive) -> bool
     sets::bits::has(wide(d.kinds), r.kind)
 }
 
-// Whether the directive selects the record.
-pub fn selects(n: Node, d: Directive) -> bool
-    ensures { λ b. ⌜ ((rs : List Held) (x : ℕ) → NodeOf rs x n → b ≡ selects rs d x) ⌝ }
-{
-    if !n.there {
-        return false;
-    }
-    let content = n.content;
-    if !passes_filters(content, d) {
-        return false;
-    }
-    register::records::reaches(n, d.reach, d.record as usize)
-}
-
 // Whether x, in whose place for the parent p stands, is a descendant of r, where `below` has r's descendants before x.
-fn is_below(below: Words, r: usize, p: usize, x: usize) -> bool
+fn is_below(below: RecordSet, r: usize, p: usize, x: usize) -> bool
     ensures { λ b. ⌜ b ≡ ltb p x && (eqb r p || contains below p) ⌝ }
 {
     if x <= p {
@@ -58,7 +39,7 @@ fn is_below(below: Words, r: usize, p: usize, x: usize) -> bool
     if r == p {
         return true;
     }
-    sets::words::member(below, p)
+    sets::record_set::member(below, p)
 }
 
 fn both(a: bool, b: bool) -> bool
@@ -68,15 +49,15 @@ fn both(a: bool, b: bool) -> bool
 }
 
 // The records that the directive selects, in one pass: a record's parent has the lower number.
-pub fn selected(g: Register, d: Directive) -> Words
-    ensures { λ w. ⌜ w ≡ wordsOf (selects (contents g .records) d) ⌝ }
+pub fn selected(g: Register, d: Directive) -> RecordSet
+    ensures { λ w. ⌜ w ≡ recordSetOf (selects (contents g .records) d) ⌝ }
 {
     let n = g.record_count;
     let records = g.records;
     let root = d.record as usize;
     let reach = d.reach;
-    let mut below = sets::words::none();
-    let mut chosen = sets::words::none();
+    let mut below = sets::record_set::empty();
+    let mut chosen = sets::record_set::empty();
     for x in 0..128usize {
         if n <= x {
             return chosen;
@@ -86,8 +67,8 @@ pub fn selected(g: Register, d: Directive) -> Words
         let descendant = is_below(below, root, p, x);
         let child = register::records::is_parent(root, p, x);
         let within = register::records::reach_takes(reach, root == x, child, descendant);
-        below = sets::words::with_where(below, x, descendant);
-        chosen = sets::words::with_where(chosen, x, both(within, passes_filters(r, d)));
+        below = sets::record_set::insert_where(below, x, descendant);
+        chosen = sets::record_set::insert_where(chosen, x, both(within, passes_filters(r, d)));
     }
     chosen
 }

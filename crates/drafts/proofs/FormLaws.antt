@@ -73,29 +73,29 @@ kind-small (Person n) = omega arith
 kind-small (Role n) = omega arith
 
 -- a set of n bits that is not empty
-record Filled (n a : ℕ) : Type 0 where
-  someIn : nonEmpty a ≡ true
-  small : a < 2 ^ n
+pub record Filled (n a : ℕ) : Type 0 where
+  pub non-empty : nonEmpty a ≡ true
+  pub small : a < 2 ^ n
 
 filled : (n a : ℕ) → nonEmptySet n a ≡ true → Filled n a
 filled n a e =
-    let (someIn, small) = and-both (nonEmpty a) (inBits n a) e in record { someIn = someIn; small = ltb-true a (2 ^ n) small }
+    let (non-empty, small) = and-both (nonEmpty a) (inBits n a) e in record { non-empty = non-empty; small = ltb-true a (2 ^ n) small }
 
 -- what a well-formed directive is
-record Formed (d : Directive) : Type 0 where
-  number : d .number < 2 ^ 16
-  subject : numberOf (d .subject) < 2 ^ 16
-  subject-origins : Filled 16 (d .«subject_origins»)
-  root : d .«record» < 2 ^ 8
-  reach : d .reach ≤ lastReach
-  origins : Filled 16 (d .origins)
-  sensitivities : Filled 16 (d .sensitivities)
-  kinds : Filled 8 (d .kinds)
-  purposes : Filled 11 (d .purposes)
-  from : d .from < 2 ^ 32
-  until : d .until < 2 ^ 32
+pub record Formed (d : Directive) : Type 0 where
+  pub number : d .number < 2 ^ 16
+  pub subject : numberOf (d .subject) < 2 ^ 16
+  pub subject-origins : Filled 16 (d .«subject_origins»)
+  pub root : d .«record» < 2 ^ 8
+  pub reach : d .reach ≤ lastReach
+  pub origins : Filled 16 (d .origins)
+  pub sensitivities : Filled 16 (d .sensitivities)
+  pub kinds : Filled 8 (d .kinds)
+  pub purposes : Filled 11 (d .purposes)
+  pub from : d .from < 2 ^ 32
+  pub until : d .until < 2 ^ 32
 
-formed : (d : Directive) → wellFormed d ≡ true → Formed d
+pub formed : (d : Directive) → wellFormed d ≡ true → Formed d
 unfolding wellFormed
 formed d e =
     let (to-from, until) = and-both _ (inBits 32 (d .until)) e in
@@ -177,11 +177,11 @@ module _ (d : Directive) (e : wellFormed d ≡ true) where
         le-leb _ _ (effect-small (d .permit)),
         le-leb _ _ (kind-small (d .subject)),
         le-leb _ _ (f .reach),
-        f .subject-origins .someIn,
-        f .origins .someIn,
-        f .sensitivities .someIn,
-        f .kinds .someIn,
-        f .purposes .someIn,
+        f .subject-origins .non-empty,
+        f .origins .non-empty,
+        f .sensitivities .non-empty,
+        f .kinds .non-empty,
+        f .purposes .non-empty,
         within,
       )
 

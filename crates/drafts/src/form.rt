@@ -59,7 +59,7 @@ pub fn keeps_ranges(d: Draft) -> bool
     if 1 < d.subject_kind {
         return false;
     }
-    if 2 < d.reach {
+    if register::LAST_REACH < d.reach {
         return false;
     }
     if d.subject_origins == 0 {

@@ -1,1 +1,2 @@
 pub mod BriefLaws
+pub mod TokenLaws

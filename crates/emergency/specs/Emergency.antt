@@ -2,12 +2,11 @@
 use Prim.Native.Nat.{ℕ}
 use mathlib.Core.Bool.{Bool, _&&_}
 use mathlib.Core.List.{List, [], _∷_}
-use lib.ListN.{length, getD}
-use Rattle.sets.specs.Quantifiers.{someBelow, countBelow}
+use lib.ListN.{getD}
+use Rattle.sets.specs.Quantifiers.{someBelow}
 use Rattle.sets.specs.Bits.{bit, shares, setOf}
-use Rattle.sets.specs.Words.{wordOf}
+use Rattle.sets.specs.RecordSets.{wordOf, recordSetOf, setBits, marked}
 use Rattle.register.specs.declared.Record.{Record}
-use Rattle.emergency.specs.declared.Token.{Token}
 use Rattle.emergency.specs.declared.Brief.{Brief}
 use Rattle.register.specs.Records.{recordAt, hasRecord}
 
@@ -24,22 +23,12 @@ scope states = setOf 16 (λ k. someBelow 8 (λ s. bit s states && bit k (getD la
 unfoldable pub disclosed : List Record → ℕ → ℕ → Bool
 disclosed rs states x = hasRecord rs x && shares 16 (recordAt rs x .labels) (scope states)
 
--- "two 64-bit words, bit i for record i (word i / 64, bit i mod 64)"
-unfoldable pub briefWord : List Record → ℕ → ℕ → ℕ
-briefWord rs states w = wordOf (disclosed rs states) w
-
--- "and the count of set bits": the number of disclosed records, which the bits are one for one
-unfoldable pub briefCount : List Record → ℕ → ℕ
-briefCount rs states = countBelow (length rs) (disclosed rs states)
-
+-- "The brief is two 64-bit words, .. and the count of set bits."
 abbrev pub briefOf : List Record → ℕ → List ℕ
-briefOf rs states = briefWord rs states 0 ∷ briefWord rs states 1 ∷ briefCount rs states ∷ []
+briefOf rs states = marked (disclosed rs states)
 
 -- the same as the struct that a brief is
 abbrev pub briefStruct : List Record → ℕ → Brief
 briefStruct rs states =
-    record { low = briefWord rs states 0; high = briefWord rs states 1; count = briefCount rs states }
-
--- what stands where there is no token
-abbrev pub noToken : Token
-noToken = record { number = 0; person = 0; states = 0; until = 0 }
+    let p = disclosed rs states in
+    record { low = wordOf p 0; high = wordOf p 1; count = setBits (recordSetOf p) }

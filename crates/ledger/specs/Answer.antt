@@ -1,7 +1,7 @@
 -- What each case of the answers' enums means, in document 01's numbers and values.
 use mathlib.Core.List.{[], _∷_}
 use Rattle.sets.specs.Quantifiers.{oneIf}
-use Rattle.model.specs.Answer.{Answer, done, refused}
+use Rattle.ledger_model.specs.Answer.{Answer, done, refused}
 use Rattle.ledger.specs.declared.answer.DirectiveRefusal.{DirectiveRefusal}
 use Rattle.ledger.specs.declared.answer.DirectiveRefusal.the-variants as Refusal
 use Rattle.ledger.specs.declared.answer.AdmitAnswer.{AdmitAnswer}

@@ -1,5 +1,5 @@
 pub mod State
 pub mod Answer
-pub mod Sound
+pub mod Invariant
 pub mod Enrolment
 pub mod Promises

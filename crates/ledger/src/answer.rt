@@ -4,7 +4,7 @@ use crate::Ledger;
 use emergency::Brief;
 ghost use mathlib.Core.Path.{_≡_};
 ghost use Rattle.ledger.specs.Answer.{directiveAnswer};
-ghost use Rattle.model.specs.Answer.{refusal};
+ghost use Rattle.ledger_model.specs.Answer.{refusal};
 
 // What questions 7 to 13 refuse, of a draft and of a card's directive alike.
 pub enum DirectiveRefusal {

@@ -7,33 +7,28 @@ use crate::answer::IssueAnswer;
 use crate::answer::IssueResult;
 use crate::answer::RevokeAnswer;
 use crate::answer::RevokeResult;
+use active::changes::Drop;
 use emergency::Token;
-use lists::finds::Found;
+use emergency::list::TokenStates;
 ghost use Rattle.ledger.specs.Promises.{Revokes, Advances, Issues, Briefs};
+
+// The last minute that there is.
+const LAST_MINUTE: u32 = 4294967295;
 
 // Takes the directive of that number out of the active list; the rest keep their order.
 pub fn revoke(l: Ledger, number: u16) -> RevokeResult
     ensures { λ r. ⌜ Revokes l number r ⌝ }
 {
-    let n = lists::walks::held(l.active_count, 32);
-    let active = l.active;
-    if !lists::finds::is_active(active, n, number) {
+    let list = l.active;
+    if !active::finds::is_active(list, number) {
         return RevokeResult {
             answer: RevokeAnswer::NotActive,
             ledger: l,
         };
     }
-    let low = l.low;
-    let high = l.high;
-    let rest = lists::walks::without_number(active, low, high, n, number);
+    let rest = active::changes::without(list, Drop::Number(number));
     let mut next = l;
-    let items = rest.items;
-    let items_low = rest.low;
-    let items_high = rest.high;
-    next.active = items;
-    next.low = items_low;
-    next.high = items_high;
-    next.active_count = rest.count;
+    next.active = rest;
     RevokeResult {
         answer: RevokeAnswer::Revoked,
         ledger: next,
@@ -50,30 +45,18 @@ pub fn advance(l: Ledger, minute: u32) -> AdvanceResult
             ledger: l,
         };
     }
-    let n = lists::walks::held(l.active_count, 32);
-    let active = l.active;
-    let low = l.low;
-    let high = l.high;
-    let directives = lists::walks::unexpired(active, low, high, n, minute);
-    let m = lists::walks::held(l.token_count, 4);
+    let list = l.active;
     let held = l.tokens;
-    let tokens = lists::walks::live(held, m, minute);
+    let directives = active::changes::without(list, Drop::Ended(minute));
+    let tokens = emergency::list::live(held, minute);
     let mut next = l;
     next.clock = minute;
-    let kept = directives.items;
-    let kept_low = directives.low;
-    let kept_high = directives.high;
-    next.active = kept;
-    next.low = kept_low;
-    next.high = kept_high;
-    next.active_count = directives.count;
-    let left = tokens.items;
-    next.tokens = left;
-    next.token_count = tokens.count;
+    next.active = directives;
+    next.tokens = tokens;
     AdvanceResult {
         answer: AdvanceAnswer::Advanced {
-            directives: n - directives.count,
-            tokens: m - tokens.count,
+            directives: active::size(list) - active::size(directives),
+            tokens: emergency::size(held) - emergency::size(tokens),
         },
         ledger: next,
     }
@@ -101,21 +84,20 @@ pub fn issue(l: Ledger, number: u16, person: u16, states: u8, minutes: u32) -> I
             ledger: l,
         };
     }
-    if 4294967295 - minutes < l.clock {
+    if LAST_MINUTE - minutes < l.clock {
         return IssueResult {
             answer: IssueAnswer::WrongMinutes,
             ledger: l,
         };
     }
-    let n = lists::walks::held(l.token_count, 4);
-    let tokens = l.tokens;
-    if lists::finds::is_issued(tokens, n, number) {
+    let held = l.tokens;
+    if emergency::list::is_issued(held, number) {
         return IssueResult {
             answer: IssueAnswer::NumberTaken,
             ledger: l,
         };
     }
-    if 4 <= n {
+    if emergency::PLACES <= held.count {
         return IssueResult {
             answer: IssueAnswer::TokensFull,
             ledger: l,
@@ -127,9 +109,9 @@ pub fn issue(l: Ledger, number: u16, person: u16, states: u8, minutes: u32) -> I
         states: states,
         until: l.clock + minutes,
     };
+    let longer = emergency::list::push(held, t);
     let mut next = l;
-    next.tokens[n] = t;
-    next.token_count = n + 1;
+    next.tokens = longer;
     IssueResult {
         answer: IssueAnswer::Issued,
         ledger: next,
@@ -140,15 +122,14 @@ pub fn issue(l: Ledger, number: u16, person: u16, states: u8, minutes: u32) -> I
 pub fn brief(l: Ledger, number: u16, person: u16) -> BriefAnswer
     ensures { λ a. ⌜ Briefs l number person a ⌝ }
 {
-    let n = lists::walks::held(l.token_count, 4);
-    let tokens = l.tokens;
-    let found = lists::finds::token_states(tokens, n, number, person);
+    let held = l.tokens;
+    let found = emergency::list::states_of(held, number, person);
     match found {
-        Found::States(states) => {
+        TokenStates::States(states) => {
             let g = l.register;
             let b = emergency::disclosure::brief_over(g, states);
             BriefAnswer::Disclosed(b)
         }
-        Found::Nothing => BriefAnswer::NoToken,
+        TokenStates::Nothing => BriefAnswer::NoToken,
     }
 }

@@ -1,6 +1,6 @@
 // What a ledger holds, for the crates above: its fields are private.
 use crate::Ledger;
-use directive::Directive;
+use active::ActiveList;
 use register::Register;
 ghost use mathlib.Core.Path.{_≡_};
 ghost use lib.ListN.{length};
@@ -24,9 +24,8 @@ pub fn register_of(l: Ledger) -> Register
     l.register
 }
 
-// The active directives, as far as there are any.
-pub fn active_of(l: Ledger) -> [Directive; 32]
-    ensures { λ ds. ⌜ ds ≡ l .active ⌝ }
+pub fn active_of(l: Ledger) -> ActiveList
+    ensures { λ a. ⌜ a ≡ l .active ⌝ }
 {
     l.active
 }
@@ -35,18 +34,19 @@ pub fn role_count(l: Ledger) -> usize
     ensures { λ n. ⌜ n ≡ length (view l .register .roles) ⌝ }
 {
     let g = l.register;
-    lists::walks::held(g.role_count, 16)
+    sets::bounds::least(g.role_count, register::ROLES)
 }
 
 pub fn record_count(l: Ledger) -> usize
     ensures { λ n. ⌜ n ≡ length (view l .register .records) ⌝ }
 {
     let g = l.register;
-    lists::walks::held(g.record_count, 128)
+    sets::bounds::least(g.record_count, register::RECORDS)
 }
 
 pub fn active_count(l: Ledger) -> usize
     ensures { λ n. ⌜ n ≡ length (view l .active) ⌝ }
 {
-    lists::walks::held(l.active_count, 32)
+    let list = l.active;
+    active::size(list)
 }

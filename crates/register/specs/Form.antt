@@ -2,6 +2,7 @@
 use Prim.Native.Nat.{ℕ}
 use mathlib.Core.Bool.{Bool, _&&_}
 use mathlib.Core.List.{List, _++_}
+use lib.ListN.{length}
 use lib.Dec.{leb}
 use Rattle.sets.specs.Bits.{nonEmpty, inBits}
 use Rattle.sets.specs.Numbers.{numberAt, bytes}
@@ -32,10 +33,15 @@ recordBytes r =
     ++ bytes 1 (r .kind)
     ++ bytes 2 (r .labels)
 
--- the ranges of record x: "origins (16-bit set, not empty), sensitivities (16-bit set, not empty), a type 0..7"
-unfoldable pub recordFits : ℕ → Record → Bool
-recordFits x r =
-    parentFits x (r .parent) && nonEmpty (r .origins) && nonEmpty (r .sensitivities) && leb (r .kind) 7
+-- "a type 0..7"
+abbrev pub lastKind : ℕ
+lastKind = 7
+
+-- the ranges of the record that comes after those of `earlier`: "every other record has a parent of lower number", "origins (16-bit
+-- set, not empty), sensitivities (16-bit set, not empty), a type 0..7"
+unfoldable pub recordFits : List Record → Record → Bool
+recordFits earlier r =
+    parentFits (length earlier) (r .parent) && nonEmpty (r .origins) && nonEmpty (r .sensitivities) && leb (r .kind) lastKind
 
 -- its numbers are of the widths that they have in ten bytes
 unfoldable pub recordWidths : Record → Bool

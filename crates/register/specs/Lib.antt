@@ -2,5 +2,4 @@ pub mod Register
 pub mod Tree
 pub mod Roles
 pub mod Records
-pub mod Nodes
 pub mod Form

@@ -3,8 +3,13 @@
 use Prim.Native.Nat.{ℕ}
 use mathlib.Core.Bool.{Bool, _||_}
 use mathlib.Core.List.{List}
-use lib.Dec.{eqb}
+use lib.ListN.{length}
+use lib.Dec.{eqb, ltb}
 use Rattle.register.specs.Tree.{isAbove}
+
+-- the register has a role of number r
+abbrev pub hasRole : List ℕ → ℕ → Bool
+hasRole roles r = ltb r (length roles)
 
 unfoldable pub covers : List ℕ → ℕ → ℕ → Bool
 covers roles r q = eqb r q || isAbove roles r q

@@ -1,9 +1,12 @@
 // The bytes of the roles and of a record: ranges, decoding and encoding.
+use crate::LAST_KIND;
 use crate::Record;
 ghost use mathlib.Core.Path.{_≡_};
+ghost use mathlib.Core.List.{List};
 ghost use Prim.Native.Nat.{_+_, _<_, _≤_};
 ghost use lib.ListN.{length};
 ghost use lib.Seq.{sets};
+ghost use Rattle.register.specs.declared.Record.{Record as Held};
 ghost use Rattle.register.specs.Tree.{parentFits, isTree};
 ghost use Rattle.register.specs.Form.{recordSize, recordOf, recordBytes, recordFits};
 
@@ -45,9 +48,9 @@ pub fn record_of(s: &[u8]) -> Record
     }
 }
 
-// Whether record x keeps its ranges.
+// Whether the record keeps its ranges where it comes after x others.
 pub fn record_fits(x: usize, r: Record) -> bool
-    ensures { λ b. ⌜ b ≡ recordFits x r ⌝ }
+    ensures { λ b. ⌜ ((earlier : List Held) → length earlier ≡ x → b ≡ recordFits earlier r) ⌝ }
 {
     if !parent_fits(x, r.parent) {
         return false;
@@ -58,7 +61,7 @@ pub fn record_fits(x: usize, r: Record) -> bool
     if r.sensitivities == 0 {
         return false;
     }
-    r.kind <= 7
+    r.kind <= LAST_KIND
 }
 
 pub fn put_record(s: &mut [u8], at: usize, r: Record)

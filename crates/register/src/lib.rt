@@ -6,6 +6,18 @@ pub mod form;
 pub mod records;
 pub mod roles;
 
+// How many roles there can be.
+pub const ROLES: usize = 16;
+
+// How many records there can be.
+pub const RECORDS: usize = 128;
+
+// The last reach that there is.
+pub const LAST_REACH: u8 = 2;
+
+// The last type that a record can have.
+pub const LAST_KIND: u8 = 7;
+
 pub struct Record {
     pub parent: u8,
     pub author: u16,
@@ -18,9 +30,9 @@ pub struct Record {
 
 // The parents of the roles and the records; what stands past the two counts has no meaning.
 pub struct Register {
-    pub roles: [u8; 16],
+    pub roles: [u8; ROLES],
     pub role_count: usize,
-    pub records: [Record; 128],
+    pub records: [Record; RECORDS],
     pub record_count: usize,
 }
 
@@ -43,8 +55,8 @@ pub fn empty_register() -> Register
     ensures { λ g. ⌜ g ≡ emptyRegister ⌝ }
 {
     let r = no_record();
-    let records = [r; 128];
-    let roles = [0u8; 16];
+    let records = [r; RECORDS];
+    let roles = [0u8; ROLES];
     Register {
         roles: roles,
         role_count: 0,

@@ -2,18 +2,10 @@
 use Prim.Native.Nat.{ℕ}
 use mathlib.Core.Bool.{Bool, true, false}
 use mathlib.Core.List.{List}
-use lib.ListN.{take, getD}
-use lib.Dec.{eqb}
-use Rattle.sets.specs.Quantifiers.{pick}
-use Rattle.model.specs.Model.{Model}
-use Rattle.model.specs.Answer.{values}
-use Rattle.gateway.specs.Entries.{Entry, Said, says, nothing, saidTo, bufferAfter, lineOf}
+use lib.ListN.{take}
+use Rattle.ledger_model.specs.Model.{Model}
+use Rattle.replay_entries.specs.Entries.{Entry, Said, says, nothing, saidTo, bufferAfter, lineOf, shownOf}
 use Rattle.text.specs.Text.{lineText}
-
--- write: "`0`, the length L, the L bytes": how many bytes of the lent buffer stand in the line
-abbrev pub shownOf : Said → ℕ
-shownOf (says tag a) = pick (eqb tag 0x16) (getD (values a) 0 0) 0
-shownOf nothing = 0
 
 -- the line of what an entry is told; `malformed` where it is malformed
 abbrev pub saidText : Said → List ℕ → List ℕ

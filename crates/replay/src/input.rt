@@ -2,8 +2,7 @@
 use libc::STDIN_FILENO;
 ghost use Prim.Native.Nat.{_≤_};
 ghost use lib.ListN.{length};
-ghost use Rattle.io.specs.Counts.{Counts};
-ghost use Rattle.replay.specs.Promises.{sizeOf};
+ghost use Rattle.replay.specs.Promises.{PartRead};
 
 pub enum Part {
     // nothing stands there
@@ -17,7 +16,7 @@ pub enum Part {
 // Reads a head, and a value of the length that the head's last two bytes give. Any such length has room in `value`.
 pub fn read_part(head: &mut [u8], value: &mut [u8]) -> Part
     requires { ⌜ (2 ≤ length (now head)) × (65535 ≤ length (now value)) ⌝ }
-    ensures { λ p. ⌜ Counts (sizeOf p) (now (value .exit)) ⌝ }
+    ensures { λ p. ⌜ PartRead (now (head .exit)) (now (value .exit)) p ⌝ }
 {
     let got = io::read_full(STDIN_FILENO, head);
     if got == 0 {

@@ -27,13 +27,16 @@ fn main() {
         print_malformed(&mut out);
         return;
     };
-    let mut now = answer::answer_card(&value[..card_size], &mut out);
+    let first = answer::answer_card(&value[..card_size], &mut out);
+    let mut ledger = first.ledger;
+    let mut shown = first.shown;
     let mut head = [0u8; 3];
     let mut turns = u64::MAX;
     while turns > 0 {
-        let size = now.size;
+        turns -= 1;
+        let size = shown.size;
         io::write_all(STDOUT_FILENO, &out[..size]);
-        if !now.goes_on {
+        if !shown.goes_on {
             return;
         }
         let entry = input::read_part(&mut head, &mut value);
@@ -44,8 +47,16 @@ fn main() {
         let Part::Whole(n) = entry else {
             return;
         };
-        let l = now.ledger;
-        now = answer::answer_entry(l, head[0], &value[..n], &mut lent, &mut out);
-        turns -= 1;
+        let tag = head[0];
+        let part = &value[..n];
+        if replay_entries::entry::is_call(tag) {
+            let turn = answer::answer_call(ledger, tag, part, &lent, &mut out);
+            let next = turn.ledger;
+            ledger = next;
+            let line = turn.shown;
+            shown = line;
+        } else {
+            shown = answer::answer_query(ledger, tag, part, &mut lent, &mut out);
+        }
     }
 }

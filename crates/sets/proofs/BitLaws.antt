@@ -3,7 +3,7 @@ use Prim.Native.Nat.{ℕ, zero, suc, _+_, _*_, _/_, _%_, _^_, _-_, _<_, _≤_, m
 use mathlib.Core.Path.{_≡_, refl, sym, ap, ap₂, _∙_}
 use mathlib.Core.Bool.{Bool, true, false, not, _&&_, _||_, or-comm}
 use mathlib.Core.Logic.{⊎-elim}
-use native.Mathlib.Nat.{add-comm, one-mul, zero-div, div-self, mod-self, mod-lt, mod-eq-of-lt, mod-add-div', div-add-mod', mul-add-mod-self-right, div-eq-of-lt, lt-of-lt-of-le, lt-of-le-of-lt}
+use native.Mathlib.Nat.{add-comm, one-mul, zero-div, div-self, mod-self, mod-lt, mod-eq-of-lt, mod-add-div', mul-add-mod-self-right, div-eq-of-lt, lt-of-lt-of-le, lt-of-le-of-lt}
 use native.Mathlib.Numerals.{one-add}
 use native.Mathlib.Decide.{ℕ-discrete, decLt}
 use native.Mathlib.Omega.{arith}
@@ -12,11 +12,11 @@ use lib.Dec.{eqb, ltb, leb·suc-zero}
 use lib.Arith.{digits-lt, digits-mod, digits-div}
 use lib.Pow.{pow-pos, pow-mono, pow-lt, shr-lt, shl-exact, field, mod-mod-pow}
 use lib.Bits.{bitAnd, bitOr, and-step, and-shr, and-le-l, or-step, or-shr}
-use lib.Count.{ones, ones-cat, ones-le}
+use lib.Count.{ones, ones-cat}
 use Rattle.sets.specs.Quantifiers.{oneIf, someBelow, someOf, countBelow}
 use Rattle.sets.specs.Bits.{bit, subset, shares, setOf}
 use Rattle.sets.proofs.Quantifiers.{same-test, either-way, never-true, and-both, both-ways, every-of, some-below}
-use Rattle.sets.proofs.Ranges.{some-same, some-narrow, count-same}
+use Rattle.sets.proofs.Ranges.{some-same, some-narrow}
 
 -- a digit and its test
 digit : (x : ℕ) → x < 2 → oneIf (eqb x 1) ≡ x
@@ -82,6 +82,14 @@ bit-low n k a h =
     ap (λ (x : ℕ). eqb x 1)
     (ap (λ (m : ℕ). a % 2 ^ m / 2 ^ k % 2) e ∙ ap (λ (x : ℕ). x % 2) (field a (j + 1) k) ∙ mod-mod-pow (a / 2 ^ k) j 1)
 
+-- and there are no others
+pub bit-rest : (n k a : ℕ) → bit k (a % 2 ^ n) ≡ ltb k n && bit k a
+bit-rest n k a =
+    elim (decLt k n) [
+      | yes l ↦ bit-low n k a l ∙ rw (lt-ltb k n l)
+      | no g ↦ bit-past n k (a % 2 ^ n) (mod-lt a (pow-pos n)) (omega arith) ∙ rw (le-ltb k n (omega arith))
+    ]
+
 -- bit n of a number of n + 1 bits is what stands above its n low bits
 top-bit : (n a : ℕ) → a < 2 ^ suc n → oneIf (bit n a) ≡ a / 2 ^ n
 top-bit n a h = digit (a / 2 ^ n % 2) (omega arith) ∙ mod-eq-of-lt (shr-lt 1 n (rw one-add h))
@@ -145,34 +153,35 @@ bit-with n k j a h =
     rw (shl-exact {a = 1} 1 k n (omega arith) (omega arith), one-mul, bit-or, bit-power)
     (or-comm (bit j a) (eqb k j))
 
--- the ones of a number are as many as the numbers in the set
+-- the ones of a set are as many as the numbers in it
 ones-one : (b : Bool) → ones (oneIf b) ≡ oneIf b
 unfolding ones
 ones-one true = refl
 ones-one false = refl
 
-pub ones-count : (n a : ℕ) → a < 2 ^ n → ones a ≡ countBelow n (λ k. bit k a)
-unfolding countBelow
-ones-count zero a h = omega (arith, ones-le 0 a h)
-ones-count (suc n) a h =
-    ap ones (sym (div-add-mod' a (2 ^ n))) ∙ ones-cat n (a / 2 ^ n) (a % 2 ^ n) (mod-lt a (pow-pos n))
-    ∙ ap₂ _+_
-    (ap ones (sym (top-bit n a h)) ∙ ones-one (bit n a))
-    (ones-count n (a % 2 ^ n) (mod-lt a (pow-pos n))
-    ∙ count-same (λ k. bit k (a % 2 ^ n)) (λ k. bit k a) n (λ k l. bit-low n k a l))
-    ∙ add-comm (oneIf (bit n a)) (countBelow n (λ k. bit k a))
+pub ones-set : (n : ℕ) (p : ℕ → Bool) → ones (setOf n p) ≡ countBelow n p
+unfolding setOf countBelow ones
+ones-set zero p = refl
+ones-set (suc n) p =
+    rw (
+      add-comm (setOf n p) (oneIf (p n) * 2 ^ n),
+      ones-cat n (oneIf (p n)) (setOf n p) (set-bound n p),
+      ones-one (p n),
+      ones-set n p,
+    )
+    (add-comm (oneIf (p n)) (countBelow n p))
 
 -- a number of n bits has one of them set where it is not 0
 pub some-bits : (n a : ℕ) → a < 2 ^ n → someBelow n (λ k. bit k a) ≡ not (eqb a 0)
 some-bits n a h =
-    let someIn = some-below n in
+    let some = some-below n in
     ⊎-elim
     (λ t.
-    let (k, i, e) = someIn .read (λ k. bit k a) t in
+    let (k, i, e) = some .read (λ k. bit k a) t in
     t ∙ sym (ap not (ne-eqb a 0 (λ z. both-ways e (ap (bit k) z ∙ bit-zero k)))))
     (λ t.
     let none : (k : ℕ) → k < n → bit k a ≡ bit k 0 =
-    λ k l. never-true (bit k a) (λ e. both-ways (someIn .make (λ k. bit k a) k l e) t) ∙ sym (bit-zero k) in
+    λ k l. never-true (bit k a) (λ e. both-ways (some .make (λ k. bit k a) k l e) t) ∙ sym (bit-zero k) in
     t ∙ sym (ap not (eq-eqb a 0 (bits-ext n a 0 h (pow-pos n) none))))
     (either-way (someBelow n (λ k. bit k a)))
 

@@ -1,15 +1,15 @@
--- Laws of `keep` and `count`: what passes stays, what does not pass leaves the list shorter, and what held of the elements
+-- Laws of `keep` and `countIn`: what passes stays, what does not pass leaves the list shorter, and what held of the elements
 -- still holds.
 use Prim.Native.Nat.{ℕ, suc, _+_, _<_, _≤_}
 use mathlib.Core.Path.{_≡_, refl}
 use mathlib.Core.Bool.{Bool, true, false, not}
 use mathlib.Core.Logic.{⊎-elim}
-use mathlib.Core.List.{List, [], _∷_, _++_, append-nil, List·Memᴰ, List·Memᴰ·head, List·Memᴰ·tail}
+use mathlib.Core.List.{List, [], _∷_, _++_, map, append-nil, List·Memᴰ, List·Memᴰ·head, List·Memᴰ·tail}
 use native.Mathlib.Numerals.{add-one}
 use native.Mathlib.Omega.{arith}
 use lib.ListN.{length, getD, take}
 use lib.Seq.{take-suc}
-use Rattle.sets.specs.Quantifiers.{pick, oneIf, allIn, someIn, keep, count, pairwise}
+use Rattle.sets.specs.Quantifiers.{pick, oneIf, allIn, someIn, keep, countIn, pairwise}
 use Rattle.sets.proofs.Quantifiers.{either-way, both-ways, never-true, and-both, every-list, some-list}
 
 one-more : {A : Type 0} (b : Bool) (x : A) (l : List A) → length (pick b (x ∷ l) l) ≤ suc (length l)
@@ -35,6 +35,12 @@ module _ {A : Type 0} (p : A → Bool) where
         | true ↦ List·Memᴰ·tail (mem-keep l a m e)
         | false ↦ mem-keep l a m e
       ]
+
+  -- where all pass, all stay
+  pub keep-all : (l : List A) → allIn p l ≡ true → keep p l ≡ l
+  unfolding allIn keep
+  keep-all [] e = refl
+  keep-all (x ∷ l) e = let (here, rest) = and-both (p x) _ e in rw (here, keep-all l rest)
 
   pub all-keep :
       (q r : A → Bool) → ((a : A) → p a ≡ true → q a ≡ true → r a ≡ true) →
@@ -73,12 +79,12 @@ module _ {A : Type 0} (p : A → Bool) where
       (λ (t : p x ≡ false). rw (t, kept))
       (either-way (p x))
 
-  pub count-keep : (l : List A) → count p l + length (keep (λ a. not (p a)) l) ≡ length l
-  unfolding keep count
+  pub count-keep : (l : List A) → countIn p l + length (keep (λ a. not (p a)) l) ≡ length l
+  unfolding keep countIn
   count-keep [] = refl
   count-keep (x ∷ l) =
       let rest = keep (λ a. not (p a)) l in
-      elim (p x) as (λ b. oneIf b + count p l + length (pick (not b) (x ∷ rest) rest) ≡ suc (length l)) [
+      elim (p x) as (λ b. oneIf b + countIn p l + length (pick (not b) (x ∷ rest) rest) ≡ suc (length l)) [
         | true ↦ omega (arith, count-keep l)
         | false ↦ omega (arith, count-keep l)
       ]
@@ -86,8 +92,8 @@ module _ {A : Type 0} (p : A → Bool) where
   -- where r holds of any two elements, and of no two that pass, at most one passes
   pub count-once :
       (r : A → A → Bool) → ((a b : A) → p a ≡ true → p b ≡ true → r a b ≡ false) →
-      (l : List A) → pairwise r l ≡ true → count p l ≡ oneIf (someIn p l)
-  unfolding allIn someIn count pairwise
+      (l : List A) → pairwise r l ≡ true → countIn p l ≡ oneIf (someIn p l)
+  unfolding allIn someIn countIn pairwise
   count-once r f [] e = refl
   count-once r f (x ∷ l) e =
       let (here, rest) = and-both (allIn (r x) l) _ e in
@@ -124,3 +130,14 @@ module _ {A : Type 0} (p : A → Bool) where
       (l : List A) (i : ℕ) (d : A) → i < length l →
       keep p (take (i + 1) l) ≡ pick (p (getD l i d)) (keep p (take i l) ++ (getD l i d ∷ [])) (keep p (take i l))
   keep-next l i d h = rw (add-one, take-suc l i d) (keep-snoc (take i l) (getD l i d))
+
+-- what passes of a list's images
+pub keep-map :
+    {A B : Type 0} (f : A → B) (p : B → Bool) (l : List A) → keep p (map f l) ≡ map f (keep (λ a. p (f a)) l)
+unfolding keep
+keep-map f p [] = refl
+keep-map f p (a ∷ l) =
+    ⊎-elim
+    (λ (e : p (f a) ≡ true). rw (e, keep-map f p l))
+    (λ (e : p (f a) ≡ false). rw (e, keep-map f p l))
+    (either-way (p (f a)))

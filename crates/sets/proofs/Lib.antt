@@ -7,3 +7,4 @@ pub mod WordLaws
 pub mod FillLaws
 pub mod Numbers
 pub mod PutLaws
+pub mod WalkLaws

@@ -1,10 +1,10 @@
--- Laws of a list of no elements and of a count past a list's end. Laws of tests over lists: of the parts of a list, of its
--- places, of one element more, of negation, of any two elements, and of two tests that agree on its elements.
+-- Laws of a list of no elements, of a count past a list's end and of a list's images. Laws of tests over lists: of the parts of a
+-- list, of its places, of one element more, of negation, of any two elements, and of two tests that agree on its elements.
 use Prim.Native.Nat.{ℕ, zero, suc, _<_}
 use mathlib.Core.Path.{_≡_, refl, ap, sym, _∙_}
 use mathlib.Core.Bool.{Bool, true, false, _&&_, _||_, not, and-true, and-assoc, and-comm, or-false, or-assoc}
 use mathlib.Core.Logic.{_⊎_, inl, inr}
-use mathlib.Core.List.{List, [], _∷_, _++_, List·Memᴰ, List·Memᴰ·head, List·Memᴰ·tail, Memᴰ·append-right}
+use mathlib.Core.List.{List, [], _∷_, _++_, map, List·Memᴰ, List·Memᴰ·head, List·Memᴰ·tail, Memᴰ·append-right}
 use native.Mathlib.Omega.{arith}
 use borrow.Author.Tests.{not-true}
 use lib.ListN.{length, getD, take, drop, take-append-drop}
@@ -26,6 +26,19 @@ module _ {A : Type 0} where
   drop-held zero l = refl
   drop-held (suc n) [] = refl
   drop-held (suc n) (x ∷ l) = drop-held n l
+
+-- place i of a list's images, whatever stands past its end
+pub map-at :
+    {A B : Type 0} (f : A → B) (l : List A) (i : ℕ) (d : A) (e : B) → i < length l → getD (map f l) i e ≡ f (getD l i d)
+map-at f [] i d e h = absurd (omega arith)
+map-at f (x ∷ l) zero d e h = refl
+map-at f (x ∷ l) (suc i) d e h = map-at f l i d e (omega arith)
+
+-- a test of some of a list's images
+pub some-map : {A B : Type 0} (f : A → B) (p : B → Bool) (l : List A) → someIn p (map f l) ≡ someIn (λ a. p (f a)) l
+unfolding someIn
+some-map f p [] = refl
+some-map f p (x ∷ l) = rw (some-map f p l)
 
 module _ {A : Type 0} (p : A → Bool) where
   pub all-append : (s t : List A) → allIn p (s ++ t) ≡ allIn p s && allIn p t

@@ -3,8 +3,8 @@ use Prim.Native.Nat.{ℕ, zero, suc, _+_, _-_, _*_, _/_, _%_, _^_, _<_, _≤_}
 use mathlib.Core.Path.{_≡_, refl, sym, ap, _∙_}
 use mathlib.Core.Bool.{true}
 use mathlib.Core.List.{List, [], _∷_, _++_, append-nil}
-use native.Mathlib.Nat.{add-zero, add-suc, suc-add, zero-add, mul-assoc, pow-suc, pow-succ', div-add-mod', mul-le-mul-right, lt-of-lt-of-le, min-le-left, pow-le-pow-right, add-sub-of-le}
-use native.Mathlib.Numerals.{add-one}
+use native.Mathlib.Nat.{add-zero, add-suc, suc-add, zero-add, mul-assoc, pow-suc, pow-succ', div-add-mod', mul-le-mul-right, lt-of-lt-of-le, min-le-left, pow-le-pow-right, add-sub-of-le, div-div-eq-div-mul}
+use native.Mathlib.Numerals.{add-one, add-two}
 use native.Mathlib.Omega.{arith}
 use borrow.Author.Tests.{ltb-true, lt-ltb}
 use lib.Dec.{ltb, lit<}
@@ -94,6 +94,27 @@ pub number-first :
     (i j n : ℕ) (s : List ℕ) → i < length s → j ≡ suc i →
     numberAt i (suc n) s ≡ numberFrom (getD s i 0) (take n (drop j s))
 number-first i j n s h e = number-next 0 i j n s h e ∙ ap (λ (a : ℕ). numberFrom a (take n (drop j s))) (zero-add (getD s i 0))
+
+-- four bytes are two and two, read and written
+pub number-halves :
+    (i : ℕ) (s : List ℕ) → i + 4 ≤ length s → numberAt i 4 s ≡ numberAt i 2 s * 65536 + numberAt (i + 2) 2 s
+unfolding numberFrom
+number-halves i s h =
+    rw (
+      add-two,
+      drop-cons s i 0 (omega arith),
+      drop-cons s (suc i) 0 (omega arith),
+      drop-cons s (suc (suc i)) 0 (omega arith),
+      drop-cons s (suc (suc (suc i))) 0 (omega arith),
+    )
+    (omega arith)
+
+pub bytes-halves : (v : ℕ) → bytes 4 v ≡ bytes 2 (v / 65536) ++ bytes 2 (v % 65536)
+unfolding bytes
+bytes-halves v =
+    let high : v % 65536 / 256 % 256 ≡ v / 256 % 256 = omega arith in
+    let low : v % 65536 % 256 ≡ v % 256 = omega arith in
+    rw (div-div-eq-div-mul v 256 256, high, low)
 
 -- b is the first n bytes of s: the number of the k bytes after them writes these
 pub bytes-next :

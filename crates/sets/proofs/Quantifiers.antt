@@ -93,11 +93,11 @@ module _ {A : Type 0} {In : A → Type 0} {q : (A → Bool) → Bool} (f : A →
       }
 
   pub some-where : Some A In q → Some A (λ a. In a × (f a ≡ true)) (λ p. q (λ a. f a && p a))
-  some-where someIn =
+  some-where some =
       record {
         read = λ p e.
-            let (a, i, both) = someIn .read _ e in let (t, u) = and-both (f a) (p a) both in (a, (i, t), u);
-        make = λ p a h e. someIn .make _ a (h .0) (rw (h .1) e);
+            let (a, i, both) = some .read _ e in let (t, u) = and-both (f a) (p a) both in (a, (i, t), u);
+        make = λ p a h e. some .make _ a (h .0) (rw (h .1) e);
       }
 
 -- numbers below n
@@ -186,13 +186,13 @@ module _ {A : Type 0} (l : List A) where
 pub a-failure :
     {A : Type 0} {In : A → Type 0} {q s : (A → Bool) → Bool} →
     Every A In q → Some A In s → (p : A → Bool) → q p ≡ false → (a : A) × In a × (p a ≡ false)
-a-failure {s} every someIn p t =
+a-failure {s} every some p t =
     ⊎-elim
-    (λ e. let (a, i, f) = someIn .read (λ a. not (p a)) e in (a, i, not-true (p a) f))
+    (λ e. let (a, i, f) = some .read (λ a. not (p a)) e in (a, i, not-true (p a) f))
     (λ e.
     both-ways
     (every .make p
     (λ a i.
-    ⊎-elim (λ f. f) (λ f. both-ways (someIn .make (λ a. not (p a)) a i (ap not f)) e) (either-way (p a))))
+    ⊎-elim (λ f. f) (λ f. both-ways (some .make (λ a. not (p a)) a i (ap not f)) e) (either-way (p a))))
     t)
     (either-way (s (λ a. not (p a))))

@@ -9,17 +9,16 @@ use native.Mathlib.Omega.{arith}
 use borrow.Author.Tests.{lt-ltb, le-ltb, eqb-true, eq-eqb, ne-eqb}
 use lib.Dec.{eqb, ltb}
 use lib.Bits.{bitAnd, bitOr}
-use lib.Count.{ones}
 use Rattle.sets.specs.Quantifiers.{pick, someOf, countBelow}
 use Rattle.sets.specs.Bits.{bit}
-use Rattle.sets.specs.Words.{contains, wordOf, wordsOf}
-use Rattle.sets.specs.declared.words.Words.{Words}
+use Rattle.sets.specs.RecordSets.{contains, wordOf, recordSetOf, setBits}
+use Rattle.sets.specs.declared.record_set.RecordSet.{RecordSet}
 use Rattle.sets.proofs.Quantifiers.{same-test}
 use Rattle.sets.proofs.Ranges.{some-same, some-split, count-same, count-split}
-use Rattle.sets.proofs.BitLaws.{bit-zero, bit-with, set-bit, set-ext, ones-count, shares-and}
+use Rattle.sets.proofs.BitLaws.{bit-zero, bit-with, set-bit, set-ext, ones-set, shares-and}
 
 -- number k is bit k of the low word, or bit k - 64 of the high one
-module _ (w : Words) (k : ℕ) where
+module _ (w : RecordSet) (k : ℕ) where
   pub contains-low : k < 64 → contains w k ≡ bit k (w .low)
   unfolding contains
   contains-low h = rw (lt-ltb k 64 h)
@@ -32,7 +31,7 @@ module _ (w : Words) (k : ℕ) where
   unfolding contains
   contains-past l = rw (le-ltb k 64 (omega arith), le-ltb k 128 l) (and-false (bit (k - 64) (w .high)))
 
-pub contains-next : (w : Words) (k : ℕ) → k < 64 → contains w (64 + k) ≡ bit k (w .high)
+pub contains-next : (w : RecordSet) (k : ℕ) → k < 64 → contains w (64 + k) ≡ bit k (w .high)
 contains-next w k h =
     contains-high w (64 + k) (omega arith) (omega arith)
     ∙ ap (λ (j : ℕ). bit j (w .high)) (add-sub-cancel-left 64 k)
@@ -50,23 +49,23 @@ contains-none k = rw (bit-zero k, bit-zero (k - 64)) (neither (ltb k 64))
 word-bit : (p : ℕ → Bool) (i k : ℕ) → k < 64 → bit k (wordOf p i) ≡ p (64 * i + k)
 word-bit p i k h = set-bit 64 k (λ k. p (64 * i + k)) ∙ rw (lt-ltb k 64 h)
 
-pub contains-words : (p : ℕ → Bool) (k : ℕ) → k < 128 → contains (wordsOf p) k ≡ p k
+pub contains-words : (p : ℕ → Bool) (k : ℕ) → k < 128 → contains (recordSetOf p) k ≡ p k
 contains-words p k h =
     elim (decLt k 64) [
-      | yes l ↦ contains-low (wordsOf p) k l ∙ word-bit p 0 k l ∙ ap p (zero-add k)
-      | no g ↦ contains-high (wordsOf p) k (omega arith) h ∙ word-bit p 1 (k - 64) (omega arith) ∙ ap p (add-sub-of-le (omega arith))
+      | yes l ↦ contains-low (recordSetOf p) k l ∙ word-bit p 0 k l ∙ ap p (zero-add k)
+      | no g ↦ contains-high (recordSetOf p) k (omega arith) h ∙ word-bit p 1 (k - 64) (omega arith) ∙ ap p (add-sub-of-le (omega arith))
     ]
 
 pub words-ext :
-    (w : Words) (p : ℕ → Bool) → w .low < 2 ^ 64 → w .high < 2 ^ 64 →
-    ((k : ℕ) → k < 128 → contains w k ≡ p k) → w ≡ wordsOf p
+    (w : RecordSet) (p : ℕ → Bool) → w .low < 2 ^ 64 → w .high < 2 ^ 64 →
+    ((k : ℕ) → k < 128 → contains w k ≡ p k) → w ≡ recordSetOf p
 words-ext w p low high f =
     ap₂ (λ (x y : ℕ). record { low = x; high = y })
     (set-ext 64 (w .low) _ low (λ k h. sym (contains-low w k h) ∙ f k (omega arith) ∙ ap p (sym (zero-add k))))
     (set-ext 64 (w .high) _ high (λ k h. sym (contains-next w k h) ∙ f (64 + k) (omega arith)))
 
 -- a number more: a bit more in one of the words
-module _ (w : Words) (x : ℕ) where
+module _ (w : RecordSet) (x : ℕ) where
   pub with-low :
       x < 64 → (k : ℕ) → k < 128 →
       contains (record { low = bitOr (w .low) (1 * 2 ^ x % 2 ^ 64); high = w .high }) k ≡ eqb x k || contains w k
@@ -94,9 +93,9 @@ module _ (w : Words) (x : ℕ) where
           (λ t. eq-eqb x k (omega (arith, eqb-true (x - 64) (k - 64) t)))
           (λ t. eq-eqb (x - 64) (k - 64) (omega (arith, eqb-true x k t)))
 
--- what two sets share, and how many numbers a set has, word by word
+-- what two sets share, word by word
 pub overlap-words :
-    (v w : Words) → v .low < 2 ^ 64 → v .high < 2 ^ 64 →
+    (v w : RecordSet) → v .low < 2 ^ 64 → v .high < 2 ^ 64 →
     not (eqb (bitAnd (v .low) (w .low)) 0) || not (eqb (bitAnd (v .high) (w .high)) 0)
     ≡ someOf 128 (contains v) (contains w)
 unfolding someOf
@@ -108,11 +107,7 @@ overlap-words v w low high =
     ∙ some-same _ _ 64 (λ k h. sym (ap₂ _&&_ (contains-next v k h) (contains-next w k h))))
     ∙ sym (some-split 64 64 (contains v) (contains w))
 
-pub count-words :
-    (w : Words) → w .low < 2 ^ 64 → w .high < 2 ^ 64 →
-    ones (w .low) + ones (w .high) ≡ countBelow 128 (contains w)
-count-words w low high =
-    ap₂ _+_
-    (ones-count 64 (w .low) low ∙ count-same _ _ 64 (λ k h. sym (contains-low w k h)))
-    (ones-count 64 (w .high) high ∙ count-same _ _ 64 (λ k h. sym (contains-next w k h)))
-    ∙ sym (count-split 64 64 (contains w))
+-- the count of set bits is that of the numbers below 128 that pass
+pub marked-count : (p : ℕ → Bool) → setBits (recordSetOf p) ≡ countBelow 128 p
+marked-count p =
+    ap₂ _+_ (ones-set 64 _ ∙ count-same _ p 64 (λ k _. ap p (zero-add k))) (ones-set 64 _) ∙ sym (count-split 64 64 p)

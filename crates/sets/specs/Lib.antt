@@ -1,4 +1,4 @@
 pub mod Quantifiers
 pub mod Bits
 pub mod Numbers
-pub mod Words
+pub mod RecordSets

@@ -8,7 +8,7 @@ abbrev pub pick : {A : Type 0} → Bool → A → A → A
 pick true x y = x
 pick false x y = y
 
--- 1 where the test holds
+-- 1 where the test holds; the library's Bool.toNat is of its unary numbers, and these are the numbers of the program
 abbrev pub oneIf : Bool → ℕ
 oneIf true = 1
 oneIf false = 0
@@ -52,9 +52,9 @@ module _ {A : Type 0} where
   keep p (a ∷ l) = pick (p a) (a ∷ keep p l) (keep p l)
 
   -- how many elements pass p
-  unfoldable pub count : (A → Bool) → List A → ℕ
-  count p [] = 0
-  count p (a ∷ l) = oneIf (p a) + count p l
+  unfoldable pub countIn : (A → Bool) → List A → ℕ
+  countIn p [] = 0
+  countIn p (a ∷ l) = oneIf (p a) + countIn p l
 
   -- each element is in the relation p to every later one
   unfoldable pub pairwise : (A → A → Bool) → List A → Bool

@@ -1,5 +1,6 @@
-// Sets as bits of a number, sets of records as two words, and big-endian numbers.
+// Sets as bits of a number, sets of records as two words, bounds of counts, and big-endian numbers.
 
 pub mod bits;
+pub mod bounds;
 pub mod number;
-pub mod words;
+pub mod record_set;

@@ -31,11 +31,9 @@ pub fn get4(s: &[u8], at: usize) -> u32
     requires { ⌜ at + 4 ≤ length (now s) ⌝ }
     ensures { λ r. ⌜ r ≡ numberAt at 4 (now (s .entry)) ⌝ }
 {
-    let a = wide(s[at]);
-    let b = wide(s[at + 1]);
-    let c = wide(s[at + 2]);
-    let d = wide(s[at + 3]);
-    ((a * 256 + b) * 256 + c) * 256 + d
+    let high = get2(s, at) as u32;
+    let low = get2(s, at + 2) as u32;
+    high * 65536 + low
 }
 
 pub fn put1(s: &mut [u8], at: usize, v: u8)
@@ -57,8 +55,6 @@ pub fn put4(s: &mut [u8], at: usize, v: u32)
     requires { ⌜ at + 4 ≤ length (now s) ⌝ }
     ensures { λ _. ⌜ now (s .exit) ≡ sets (now (s .entry)) at (bytes 4 v) ⌝ }
 {
-    s[at] = (v / 16777216) as u8;
-    s[at + 1] = (v / 65536 % 256) as u8;
-    s[at + 2] = (v / 256 % 256) as u8;
-    s[at + 3] = (v % 256) as u8;
+    put2(s, at, (v / 65536) as u16);
+    put2(s, at + 2, (v % 65536) as u16);
 }

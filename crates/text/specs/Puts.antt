@@ -12,5 +12,5 @@ pub record Puts (before : List ℕ) (i : ℕ) (text : List ℕ) (after : List �
   pub place : next ≡ i + length text
 
 -- The first n bytes of a buffer are the text.
-abbrev pub Begins : List ℕ → ℕ → List ℕ → Type 0
-Begins buffer n text = Counts n buffer × (take n buffer ≡ text)
+abbrev pub StartsWith : List ℕ → ℕ → List ℕ → Type 0
+StartsWith buffer n text = Counts n buffer × (take n buffer ≡ text)

@@ -42,12 +42,12 @@ bytesText [] = []
 bytesText (b ∷ bs) = blank ∷ hexText (b ∷ bs)
 
 -- the word `malformed`
-unfoldable pub malformed : List ℕ
-malformed = 109 ∷ 97 ∷ 108 ∷ 102 ∷ 111 ∷ 114 ∷ 109 ∷ 101 ∷ 100 ∷ []
+unfoldable pub malformedWord : List ℕ
+malformedWord = 109 ∷ 97 ∷ 108 ∷ 102 ∷ 111 ∷ 114 ∷ 109 ∷ 101 ∷ 100 ∷ []
 
 -- what stands in a line: the word `malformed` where there are no numbers, or the numbers and then the bytes
 unfoldable pub lineBody : List ℕ → List ℕ → List ℕ
-lineBody [] bytes = malformed
+lineBody [] bytes = malformedWord
 lineBody (n ∷ ns) bytes = numbersText (n ∷ ns) ++ bytesText bytes
 
 -- "prints one line"

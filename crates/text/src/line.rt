@@ -4,7 +4,7 @@ ghost use Prim.Native.Nat.{_+_, _*_, _≤_};
 ghost use lib.ListN.{length, take};
 ghost use lib.Seq.{sets};
 ghost use Rattle.text.specs.Text.{bytesText, lineBody, lineText};
-ghost use Rattle.text.specs.Puts.{Puts, Begins};
+ghost use Rattle.text.specs.Puts.{Puts, StartsWith};
 
 // A blank and the bytes, where there are any.
 fn put_rest(out: &mut [u8], at: usize, bytes: &[u8]) -> usize
@@ -38,7 +38,7 @@ pub fn put_line(out: &mut [u8], numbers: [u64; 4], count: usize, bytes: &[u8]) -
     requires { ⌜ 85 + 2 * length (now bytes) ≤ length (now out) ⌝ }
     ensures { λ r. ⌜ now (out .exit) ≡ sets (now (out .entry)) 0 (lineText (take count numbers) (now (bytes .entry))) ⌝ }
     ensures { λ r. ⌜ r ≡ length (lineText (take count numbers) (now (bytes .entry))) ⌝ }
-    ensures { λ r. ⌜ Begins (now (out .exit)) r (lineText (take count numbers) (now (bytes .entry))) ⌝ }
+    ensures { λ r. ⌜ StartsWith (now (out .exit)) r (lineText (take count numbers) (now (bytes .entry))) ⌝ }
 {
     let at = put_body(out, numbers, count, bytes);
     out[at] = b'\n';

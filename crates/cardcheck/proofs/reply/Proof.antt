@@ -4,7 +4,7 @@ use mathlib.Core.Path.{subst}
 use mathlib.Core.List.{List, []}
 use borrow.Author.Needs.{needs}
 use Rattle.text.specs.Text.{lineText}
-use Rattle.text.specs.Puts.{Begins}
+use Rattle.text.specs.Puts.{StartsWith}
 use Rattle.cardcheck.proofs.reply.Statement.{statement}
 use Rattle.cardcheck.proofs.reply.Tie as tie
 
@@ -20,7 +20,7 @@ put-line-requires c κs = search needs
 returns : tie.Need-returns
 returns c =
     let checked = c .before .before .before in
-    subst (λ (ns : List ℕ). Begins (c .put-line .last .0) (c .put-line .result) (lineText ns [])) (checked .check .ensures)
+    subst (λ (ns : List ℕ). StartsWith (c .put-line .last .0) (c .put-line .result) (lineText ns [])) (checked .check .ensures)
     (c .put-line .ensures .1 .1)
 
 pub reply-spec : {M : Type 1} → statement M

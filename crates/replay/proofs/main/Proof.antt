@@ -1,24 +1,26 @@
--- `main` ends: each turn counts down. The line of a turn is in the buffer, and its ledger is sound; the buffers keep their lengths.
-use mathlib.Core.Path.{_≡_}
+-- `main` ends: each turn counts down. The line of a turn is in the buffer, and the ledger is sound; the buffers keep their lengths. A tag
+-- of a call is answered as a call, any other as a query.
+use mathlib.Core.Path.{_≡_, sym, _∙_}
 use native.Mathlib.Omega.{arith}
 use borrow.Author.Needs.{needs}
 use lib.ListN.{length}
 use Rattle.io.specs.Counts.{Counts}
-use Rattle.ledger.specs.Sound.{Sound}
+use Rattle.ledger.specs.Invariant.{Invariant}
 use Rattle.replay.proofs.main.Statement.{statement}
 use Rattle.replay.proofs.main.Tie as tie
 
 abbrev Inv-loop : tie.InvT-loop
-Inv-loop value₀ lent₀ out₀ card-size now₀ head₀ turns₀ value lent out now head turns =
-    Counts (now .size) out
-    × Sound (now .ledger)
+Inv-loop value₀ lent₀ out₀ card-size ledger₀ shown₀ head₀ turns₀ value lent out ledger shown head turns =
+    Counts (shown .size) out
+    × Invariant ledger
     × (length value ≡ 65535)
     × (length lent ≡ 65535)
     × (length out ≡ 131155)
     × (length head ≡ 3)
 
 abbrev μ-loop : tie.MeasureT-loop
-μ-loop value₀ lent₀ out₀ card-size now₀ head₀ turns₀ value lent out now head turns = turns
+μ-loop value₀ lent₀ out₀ card-size ledger₀ shown₀ head₀ turns₀ value lent out ledger shown head turns =
+    turns
 
 slice-aggregate-read-part : tie.Need-slice-aggregate-read-part Inv-loop μ-loop
 slice-aggregate-read-part c = search needs
@@ -42,10 +44,10 @@ returns : tie.Need-returns Inv-loop μ-loop
 returns c = search needs
 
 array-share-prefix-value : tie.Need-array-share-prefix-value Inv-loop μ-loop
-array-share-prefix-value c = (rw (c .before .card .given .1) at (c .before .before .before .before .before .read-part .ensures)) .0
+array-share-prefix-value c = (rw (c .before .card .given .1) at (c .before .before .before .before .before .read-part .ensures .counts)) .0
 
 slice-aggregate-answer-card : tie.Need-slice-aggregate-answer-card Inv-loop μ-loop
-slice-aggregate-answer-card c = (rw (c .before .before .card .given .1) at (c .before .before .before .before .before .before .read-part .ensures)) .1
+slice-aggregate-answer-card c = (rw (c .before .before .card .given .1) at (c .before .before .before .before .before .before .read-part .ensures .counts)) .1
 
 slice-aggregate-answer-card-2 : tie.Need-slice-aggregate-answer-card-2 Inv-loop μ-loop
 slice-aggregate-answer-card-2 c = search needs
@@ -55,8 +57,11 @@ answer-card-requires c κs = search needs
 
 loop-holds : tie.Need-loop-holds Inv-loop μ-loop
 loop-holds c =
-    let card = c .before .answer-card .ensures in
-    (card .line .0, card .sound, search needs, search needs, search needs, search needs)
+    let card = c .before .before .before .answer-card .ensures in
+    (card .line .0, card .invariant, search needs, search needs, search needs, search needs)
+
+sub-turns : tie.Need-sub-turns Inv-loop μ-loop
+sub-turns c = search needs
 
 array-share-prefix-out : tie.Need-array-share-prefix-out Inv-loop μ-loop
 array-share-prefix-out c = search needs
@@ -97,32 +102,54 @@ enum-known-entry c = search needs
 returns-4 : tie.Need-returns-4 Inv-loop μ-loop
 returns-4 c = search needs
 
-array-read-answer-entry : tie.Need-array-read-answer-entry Inv-loop μ-loop
-array-read-answer-entry c = search needs
+array-read-tag : tie.Need-array-read-tag Inv-loop μ-loop
+array-read-tag c = search needs
 
 array-share-prefix-value-2 : tie.Need-array-share-prefix-value-2 Inv-loop μ-loop
-array-share-prefix-value-2 c = (rw (c .before .before .entry .given .1) at (c .before .before .before .before .before .before .before .read-part2 .ensures)) .0
+array-share-prefix-value-2 c = (rw (c .before .entry .given .1) at (c .before .before .before .before .before .before .read-part2 .ensures .counts)) .0
 
-slice-aggregate-answer-entry : tie.Need-slice-aggregate-answer-entry Inv-loop μ-loop
-slice-aggregate-answer-entry c = (rw (c .before .before .before .entry .given .1) at (c .before .before .before .before .before .before .before .before .read-part2 .ensures)) .1
+slice-aggregate-part : tie.Need-slice-aggregate-part Inv-loop μ-loop
+slice-aggregate-part c = (rw (c .before .before .entry .given .1) at (c .before .before .before .before .before .before .before .read-part2 .ensures .counts)) .1
 
-slice-aggregate-answer-entry-2 : tie.Need-slice-aggregate-answer-entry-2 Inv-loop μ-loop
-slice-aggregate-answer-entry-2 c = search needs
+is-call-requires : tie.Need-is-call-requires Inv-loop μ-loop
+is-call-requires c κs = search needs
 
-slice-aggregate-answer-entry-3 : tie.Need-slice-aggregate-answer-entry-3 Inv-loop μ-loop
-slice-aggregate-answer-entry-3 c = search needs
+slice-aggregate-answer-call : tie.Need-slice-aggregate-answer-call Inv-loop μ-loop
+slice-aggregate-answer-call c = search needs
 
-answer-entry-requires : tie.Need-answer-entry-requires Inv-loop μ-loop
-answer-entry-requires c κs = search needs
+slice-aggregate-answer-call-2 : tie.Need-slice-aggregate-answer-call-2 Inv-loop μ-loop
+slice-aggregate-answer-call-2 c = search needs
 
-sub-turns : tie.Need-sub-turns Inv-loop μ-loop
-sub-turns c = omega (arith, c .before .before .before .before .before .before .before .before .before .before .before .before .before .before .before .before .before .before .before .before .loop-test .taken)
+answer-call-requires : tie.Need-answer-call-requires Inv-loop μ-loop
+answer-call-requires c κs =
+    (sym (c .before .before .before .is-call .ensures) ∙ c .before .before .if2 .taken, search needs, search needs)
 
 loop-less : tie.Need-loop-less Inv-loop μ-loop
-loop-less c = omega (arith, c .before .before .before .before .before .before .before .before .before .before .before .before .before .before .before .before .before .before .before .before .loop-test .taken)
+loop-less c = omega (arith, c .before .before .before .before .before .before .before .before .before .before .before .before .before .before .before .before .before .before .before .before .before .before .loop-test .taken)
 
 loop-again : tie.Need-loop-again Inv-loop μ-loop
-loop-again c = search needs
+loop-again c =
+    let turn = c .before .before .before .answer-call .ensures in
+    let start = c .before .before .before .before .before .before .before .before .before .before .before .before .before .before .before .before .before .before .before .before .before .before .before .loop .inv in
+    (turn .line .0, turn .invariant, search needs, start .3, search needs, search needs)
+
+slice-aggregate-answer-query : tie.Need-slice-aggregate-answer-query Inv-loop μ-loop
+slice-aggregate-answer-query c = search needs
+
+slice-aggregate-answer-query-2 : tie.Need-slice-aggregate-answer-query-2 Inv-loop μ-loop
+slice-aggregate-answer-query-2 c = search needs
+
+answer-query-requires : tie.Need-answer-query-requires Inv-loop μ-loop
+answer-query-requires c κs =
+    (sym (c .before .before .before .is-call .ensures) ∙ c .before .before .if2 .left, search needs, search needs)
+
+loop-less-2 : tie.Need-loop-less-2 Inv-loop μ-loop
+loop-less-2 c = omega (arith, c .before .before .before .before .before .before .before .before .before .before .before .before .before .before .before .before .before .before .before .before .before .loop-test .taken)
+
+loop-again-2 : tie.Need-loop-again-2 Inv-loop μ-loop
+loop-again-2 c =
+    let turn = c .before .before .answer-query .ensures in
+    (turn .line .0, turn .invariant, search needs, search needs, search needs, search needs)
 
 returns-5 : tie.Need-returns-5 Inv-loop μ-loop
 returns-5 c = search needs
@@ -145,6 +172,7 @@ main-spec =
     slice-aggregate-answer-card-2
     answer-card-requires
     loop-holds
+    sub-turns
     array-share-prefix-out
     slice-aggregate-write-all
     write-all-requires
@@ -158,13 +186,18 @@ main-spec =
     returns-3
     enum-known-entry
     returns-4
-    array-read-answer-entry
+    array-read-tag
     array-share-prefix-value-2
-    slice-aggregate-answer-entry
-    slice-aggregate-answer-entry-2
-    slice-aggregate-answer-entry-3
-    answer-entry-requires
-    sub-turns
+    slice-aggregate-part
+    is-call-requires
+    slice-aggregate-answer-call
+    slice-aggregate-answer-call-2
+    answer-call-requires
     loop-less
     loop-again
+    slice-aggregate-answer-query
+    slice-aggregate-answer-query-2
+    answer-query-requires
+    loop-less-2
+    loop-again-2
     returns-5)

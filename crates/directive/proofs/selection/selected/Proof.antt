@@ -7,7 +7,7 @@ use borrow.Author.Needs.{needs}
 use borrow.Author.Tests.{le-ltb}
 use lib.ListN.{length, take, length-take}
 use lib.Seq.{getD-take}
-use Rattle.sets.specs.declared.words.Words.{Words}
+use Rattle.sets.specs.declared.record_set.RecordSet.{RecordSet}
 use Rattle.register.specs.declared.Record.{Record}
 use Rattle.register.specs.Register.{noRecord, contents}
 use Rattle.register.specs.Records.{descendant}
@@ -21,7 +21,7 @@ use Rattle.directive.proofs.selection.selected.Statement.{statement}
 use Rattle.directive.proofs.selection.selected.Tie as tie
 
 -- what is known before a turn
-record Swept (d : Directive) (n : ℕ) (rs : List Record) (below chosen : Words) (x : ℕ) : Type 0 where
+record Swept (d : Directive) (n : ℕ) (rs : List Record) (below chosen : RecordSet) (x : ℕ) : Type 0 where
   in-words : x ≤ 128
   in-register : x ≤ n
   low : chosen .low < 2 ^ 64
@@ -38,11 +38,11 @@ abbrev μ-loop : tie.MeasureT-loop
 cast-root : tie.Need-cast-root Inv-loop μ-loop
 cast-root c = search needs
 
-none-requires : tie.Need-none-requires Inv-loop μ-loop
-none-requires c κs = search needs
+empty-requires : tie.Need-empty-requires Inv-loop μ-loop
+empty-requires c κs = search needs
 
-none-requires-2 : tie.Need-none-requires-2 Inv-loop μ-loop
-none-requires-2 c κs = search needs
+empty-requires-2 : tie.Need-empty-requires-2 Inv-loop μ-loop
+empty-requires-2 c κs = search needs
 
 loop-holds : tie.Need-loop-holds Inv-loop μ-loop
 loop-holds c =
@@ -51,8 +51,8 @@ loop-holds c =
       in-register = search needs;
       low = search needs;
       high = search needs;
-      descendants = λ k h. c .before .none .ensures k ∙ rw (le-ltb k 0 (search needs));
-      selection = λ k h. c .none2 .ensures k ∙ rw (le-ltb k 0 (search needs));
+      descendants = λ k h. c .before .empty .ensures k ∙ rw (le-ltb k 0 (search needs));
+      selection = λ k h. c .empty2 .ensures k ∙ rw (le-ltb k 0 (search needs));
     }
 
 returns : tie.Need-returns Inv-loop μ-loop
@@ -80,8 +80,8 @@ is-parent-requires c κs = search needs
 reach-takes-requires : tie.Need-reach-takes-requires Inv-loop μ-loop
 reach-takes-requires c κs = search needs
 
-with-where-requires : tie.Need-with-where-requires Inv-loop μ-loop
-with-where-requires c κs = search needs
+insert-where-requires : tie.Need-insert-where-requires Inv-loop μ-loop
+insert-where-requires c κs = search needs
 
 passes-filters-requires : tie.Need-passes-filters-requires Inv-loop μ-loop
 passes-filters-requires c κs = search needs
@@ -89,8 +89,8 @@ passes-filters-requires c κs = search needs
 both-requires : tie.Need-both-requires Inv-loop μ-loop
 both-requires c κs = search needs
 
-with-where-requires-2 : tie.Need-with-where-requires-2 Inv-loop μ-loop
-with-where-requires-2 c κs = search needs
+insert-where-requires-2 : tie.Need-insert-where-requires-2 Inv-loop μ-loop
+insert-where-requires-2 c κs = search needs
 
 add-x : tie.Need-add-x Inv-loop μ-loop
 add-x c = search needs
@@ -148,8 +148,8 @@ loop-again c =
       in-register = omega (arith, turn .if1 .left);
       low = search needs;
       high = search needs;
-      descendants = below-next _ _ _ (now .x) _ (now .inv .descendants) (descendant-here (c .before .before .before .before .before .before)) (c .before .before .before .with-where .ensures);
-      selection = below-next _ _ _ (now .x) _ (now .inv .selection) (selected-here (c .before)) (c .with-where2 .ensures);
+      descendants = below-next _ _ _ (now .x) _ (now .inv .descendants) (descendant-here (c .before .before .before .before .before .before)) (c .before .before .before .insert-where .ensures);
+      selection = below-next _ _ _ (now .x) _ (now .inv .selection) (selected-here (c .before)) (c .insert-where2 .ensures);
     }
 
 returns-2 : tie.Need-returns-2 Inv-loop μ-loop
@@ -164,8 +164,8 @@ selected-spec =
     Inv-loop
     μ-loop
     cast-root
-    none-requires
-    none-requires-2
+    empty-requires
+    empty-requires-2
     loop-holds
     returns
     mul-r
@@ -174,10 +174,10 @@ selected-spec =
     is-below-requires
     is-parent-requires
     reach-takes-requires
-    with-where-requires
+    insert-where-requires
     passes-filters-requires
     both-requires
-    with-where-requires-2
+    insert-where-requires-2
     add-x
     loop-less
     loop-again

@@ -1,11 +1,5 @@
--- `emergency::brief_over`: the words are those of the disclosed records, and a register has at most 128.
-use mathlib.Core.Path.{_≡_}
-use native.Mathlib.Omega.{arith}
+-- `disclosure::brief_over`: the words are those of the disclosed records, with the count of their ones.
 use borrow.Author.Needs.{needs}
-use lib.ListN.{length, length-take}
-use Rattle.register.specs.Register.{contents}
-use Rattle.register.proofs.ArrayLaws.{long-mapped}
-use Rattle.emergency.proofs.BriefLaws.{brief-made}
 use Rattle.emergency.proofs.disclosure.brief_over.Statement.{statement}
 use Rattle.emergency.proofs.disclosure.brief_over.Tie as tie
 
@@ -17,10 +11,8 @@ brief-of-requires c κs = search needs
 
 returns : tie.Need-returns
 returns c =
-    let args = c .before .before .args in
-    let l : length (args .g .records) ≡ 128 = search (needs, long-mapped) in
-    brief-made (contents (args .g) .records) (args .states) (simp length-take (omega arith)) (c .before .disclosed .ensures)
-    (c .brief-of .ensures)
+    let made = c .brief-of .ensures in
+    rw (made .0, made .1, made .2, c .before .disclosed .ensures)
 
 pub brief-over-spec : {M : Type 1} → statement M
 brief-over-spec = tie.close (tie.spec disclosed-requires brief-of-requires returns)

@@ -1,4 +1,5 @@
--- `calls::brief`: a token that is found answers question 22, and the brief is that of its states.
+-- `calls::brief`: where the invariant holds every token is live; one that is found answers question 22, and the brief is that of
+-- its states.
 use Prim.Native.Nat.{ℕ}
 use mathlib.Core.Path.{_≡_, refl, sym, ap, _∙_}
 use mathlib.Core.Bool.{Bool, true, false, _&&_}
@@ -11,19 +12,20 @@ use Rattle.sets.specs.Quantifiers.{someIn, keep}
 use Rattle.sets.proofs.Quantifiers.{either-way}
 use Rattle.register.specs.declared.Record.{Record}
 use Rattle.emergency.specs.declared.Token.{Token}
-use Rattle.lists.specs.declared.finds.Found.{Found}
-use Rattle.lists.specs.declared.finds.Found.the-variants.{States, Nothing}
-use Rattle.lists.specs.Lists.{statesOf}
-use Rattle.model.specs.Model.{Model}
-use Rattle.ledger.specs.State.{view}
-use Rattle.model.specs.Answer.{done, refused}
+use Rattle.emergency.specs.declared.list.TokenStates.{TokenStates}
+use Rattle.emergency.specs.declared.list.TokenStates.the-variants.{States, Nothing}
+use Rattle.emergency.specs.Tokens.{statesOf}
 use Rattle.emergency.specs.Emergency.{briefOf}
-use Rattle.model.specs.Questions.{firstNo}
-use Rattle.model.specs.Calls.{briefBy, briefed}
+use Rattle.ledger_model.specs.Model.{Model}
+use Rattle.ledger.specs.State.{view}
+use Rattle.ledger_model.specs.Answer.{done, refused}
+use Rattle.ledger_model.specs.Questions.{firstNo, liveTokens}
+use Rattle.ledger_model.specs.Calls.{briefBy, briefed}
+use Rattle.ledger_model.proofs.Soundness.{live-all}
 use Rattle.ledger.proofs.calls.brief.Statement.{statement}
 use Rattle.ledger.proofs.calls.brief.Tie as tie
 
-abbrev isFound : Found → Bool
+abbrev isFound : TokenStates → Bool
 isFound (States s) = true
 isFound Nothing = false
 
@@ -44,21 +46,18 @@ module _ (m : Model) (n p : ℕ) where
   abbrev asked : Token → Bool
   asked t = eqb (t .number) n && eqb (t .person) p
 
-  found : (s : ℕ) → statesOf (keep asked (m .tokens)) ≡ States s → briefed m n p ≡ done (briefOf (m .register .records) s)
+  found : (s : ℕ) → statesOf (keep asked (liveTokens m)) ≡ States s → briefed m n p ≡ done (briefOf (m .register .records) s)
   unfolding briefed firstNo
   found s e =
-      let there = some-found asked (m .tokens) ∙ ap isFound e in
-      rw (there, brief-found (m .register .records) (keep asked (m .tokens)) s e)
+      let there = some-found asked (liveTokens m) ∙ ap isFound e in
+      rw (there, brief-found (m .register .records) (keep asked (liveTokens m)) s e)
 
-  nothing : statesOf (keep asked (m .tokens)) ≡ Nothing → briefed m n p ≡ refused 22 []
+  nothing : statesOf (keep asked (liveTokens m)) ≡ Nothing → briefed m n p ≡ refused 22 []
   unfolding briefed firstNo
-  nothing e = rw (some-found asked (m .tokens) ∙ ap isFound e)
+  nothing e = rw (some-found asked (liveTokens m) ∙ ap isFound e)
 
-held-requires : tie.Need-held-requires
-held-requires c κs = search needs
-
-token-states-requires : tie.Need-token-states-requires
-token-states-requires c κs = search needs
+states-of-requires : tie.Need-states-of-requires
+states-of-requires c κs = search needs
 
 enum-known-found : tie.Need-enum-known-found
 enum-known-found c = search needs
@@ -70,28 +69,22 @@ enum-told : tie.Need-enum-told
 enum-told c = search needs
 
 returns : tie.Need-returns
-returns c sound =
-    let start = c .before .before .before .before .before .before .before .before in
+returns c invariant =
     let by = c .before .before .before in
-    let n : by .before .before .before .before .held .result ≡ start .args .l .«token_count» = omega arith in
-    let is = sym (rw n at (by .before .before .token-states .ensures)) ∙ by .found .given .1 in
-    rw (c .brief-over .ensures) (sym (found (view (start .args .l)) (start .args .number) (start .args .person) _ is))
+    let sought = by .before .before in
+    let start = sought .before .before in
+    let is = sym (sought .states-of .ensures) ∙ by .found .given .1 in
+    rw (c .brief-over .ensures)
+    (sym (found (view (start .args .l)) (start .args .number) (start .args .person) _ (rw (live-all _ (invariant .model)) is)))
 
 returns-2 : tie.Need-returns-2
-returns-2 c sound =
-    let start = c .before .before .before .before .before in
-    let n : c .before .before .before .before .held .result ≡ start .args .l .«token_count» = omega arith in
-    let is = sym (rw n at (c .before .before .token-states .ensures)) ∙ c .enum-told .given .1 in
-    sym (nothing (view (start .args .l)) (start .args .number) (start .args .person) is)
+returns-2 c invariant =
+    let sought = c .before .before in
+    let start = sought .before .before in
+    let is = sym (sought .states-of .ensures) ∙ c .enum-told .given .1 in
+    sym (nothing (view (start .args .l)) (start .args .number) (start .args .person) (rw (live-all _ (invariant .model)) is))
 
 pub brief-spec : {M : Type 1} → statement M
 brief-spec =
     tie.close
-    (tie.spec
-    held-requires
-    token-states-requires
-    enum-known-found
-    brief-over-requires
-    enum-told
-    returns
-    returns-2)
+    (tie.spec states-of-requires enum-known-found brief-over-requires enum-told returns returns-2)

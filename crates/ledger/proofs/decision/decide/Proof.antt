@@ -15,12 +15,14 @@ use Rattle.directive.specs.declared.Directive.{Directive}
 use Rattle.directive.specs.declared.Query.{Query}
 use Rattle.directive.specs.declared.lowest.Best.{Best}
 use Rattle.directive.specs.Lowest.{bestOf}
-use Rattle.model.specs.Model.{Model}
+use Rattle.ledger_model.specs.Model.{Model}
 use Rattle.ledger.specs.State.{view}
-use Rattle.model.specs.Answer.{done, refused}
-use Rattle.model.specs.Decision.{Decision, matching, isPatient, isAuthor, byDirectives, decision}
-use Rattle.model.specs.Questions.{firstNo, isInRange}
-use Rattle.model.specs.Calls.{decided}
+use Rattle.ledger.specs.Invariant.{Invariant}
+use Rattle.ledger_model.specs.Answer.{done, refused}
+use Rattle.ledger_model.specs.Decision.{Decision, matching, isPatient, isAuthor, byDirectives, decision}
+use Rattle.ledger_model.specs.Questions.{firstNo, isInRange}
+use Rattle.ledger_model.specs.Calls.{decided}
+use Rattle.ledger.proofs.CallLaws.{records-few}
 use Rattle.ledger.proofs.decision.decide.Statement.{statement}
 use Rattle.ledger.proofs.decision.decide.Tie as tie
 
@@ -52,7 +54,7 @@ in-range-requires : tie.Need-in-range-requires
 in-range-requires c κs = search needs
 
 returns : tie.Need-returns
-returns c sound = outside _ _ (failed (c .before .in-range .ensures) (c .if1 .taken))
+returns c invariant = outside _ _ (failed (c .before .in-range .ensures) (c .if1 .taken))
 
 in-range :
     (c : tie.Else1) →
@@ -61,7 +63,7 @@ in-range :
 in-range c = passed (c .before .in-range .ensures) (c .if1 .left)
 
 returns-2 : tie.Need-returns-2
-returns-2 c sound = patient _ _ (in-range (c .before .before .before)) (eq-eqb _ _ (c .if2 .taken))
+returns-2 c invariant = patient _ _ (in-range (c .before .before .before)) (eq-eqb _ _ (c .if2 .taken))
 
 not-patient :
     (c : tie.Else2) →
@@ -76,7 +78,7 @@ record-at-requires : tie.Need-record-at-requires
 record-at-requires c κs = search needs
 
 returns-3 : tie.Need-returns-3
-returns-3 c sound =
+returns-3 c invariant =
     let found = c .before .before .before in
     let past-patient = found .before .before in
     author _ _
@@ -125,11 +127,11 @@ module _ (m : Model) (q : Query) {r : Record} {best : Best} (at : Past m q r bes
 
 past :
     (c : tie.After-lowest-match) →
-    let patient-asked = c .before .before .before .before .before .before .before .before in
-    let args = patient-asked .before .before .before .before .before .before .args in
-    Past (view (args .l)) (args .q) (c .before .before .before .before .before .before .record-at .result) (c .lowest-match .result)
-past c =
-    let author-asked = c .before .before .before in
+    let found = c .before .before .before .before .before .before .before .before in
+    let args = found .before .before .before .before .before .before .before .before .args in Invariant (args .l) →
+    Past (view (args .l)) (args .q) (found .record-at .result) (c .lowest-match .result)
+past c invariant =
+    let author-asked = c .before .before .before .before .before in
     let found = author-asked .before .before .before in
     let patient-asked = found .before .before in
     record {
@@ -139,25 +141,27 @@ past c =
           ne-eqb _ _
           (λ e. author-asked .if3 .left (e ∙ ap (λ (r : Record). r .author) (sym (found .record-at .ensures))));
       found = found .record-at .ensures;
-      lowest = rw (c .before .request-at .ensures) at (c .lowest-match .ensures);
+      lowest =
+          rw (c .before .request-at .ensures) at
+          (c .lowest-match .ensures _ (records-few (invariant .shape)) (invariant .shape .active-held));
     }
 
 returns-4 : tie.Need-returns-4
-returns-4 c sound = directive _ _ (past (c .before)) (c .if4 .taken)
+returns-4 c invariant = directive _ _ (past (c .before) invariant) (c .if4 .taken)
 
 has-requires : tie.Need-has-requires
 has-requires c κs = search needs
 
 returns-5 : tie.Need-returns-5
-returns-5 c sound =
+returns-5 c invariant =
     let tested = c .before .before in
-    default _ _ (past (tested .before)) false (tested .if4 .left) (failed (c .before .has .ensures) (c .if5 .taken))
+    default _ _ (past (tested .before) invariant) false (tested .if4 .left) (failed (c .before .has .ensures) (c .if5 .taken))
 
 returns-6 : tie.Need-returns-6
-returns-6 c sound =
+returns-6 c invariant =
     let has-tested = c .before in
     let tested = has-tested .before .before in
-    default _ _ (past (tested .before)) true (tested .if4 .left)
+    default _ _ (past (tested .before) invariant) true (tested .if4 .left)
     (passed (has-tested .before .has .ensures) (has-tested .if5 .left))
 
 pub decide-spec : {M : Type 1} → statement M

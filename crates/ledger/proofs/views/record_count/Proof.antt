@@ -6,13 +6,13 @@ use Rattle.register.proofs.ArrayLaws.{long-mapped}
 use Rattle.ledger.proofs.views.record_count.Statement.{statement}
 use Rattle.ledger.proofs.views.record_count.Tie as tie
 
-held-requires : tie.Need-held-requires
-held-requires c κs = search needs
+least-requires : tie.Need-least-requires
+least-requires c κs = search needs
 
 returns : tie.Need-returns
 returns c =
     let l : length (c .before .before .args .l .register .records) ≡ 128 = search (needs, long-mapped) in
-    rw (length-take, l) (c .held .ensures)
+    rw (length-take, l) (c .least .ensures)
 
 pub record-count-spec : {M : Type 1} → statement M
-record-count-spec = tie.close (tie.spec held-requires returns)
+record-count-spec = tie.close (tie.spec least-requires returns)

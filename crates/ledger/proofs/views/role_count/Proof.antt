@@ -5,13 +5,13 @@ use lib.ListN.{length, length-take}
 use Rattle.ledger.proofs.views.role_count.Statement.{statement}
 use Rattle.ledger.proofs.views.role_count.Tie as tie
 
-held-requires : tie.Need-held-requires
-held-requires c κs = search needs
+least-requires : tie.Need-least-requires
+least-requires c κs = search needs
 
 returns : tie.Need-returns
 returns c =
     let l : length (c .before .before .args .l .register .roles) ≡ 16 = search needs in
-    rw (length-take, l) (c .held .ensures)
+    rw (length-take, l) (c .least .ensures)
 
 pub role-count-spec : {M : Type 1} → statement M
-role-count-spec = tie.close (tie.spec held-requires returns)
+role-count-spec = tie.close (tie.spec least-requires returns)

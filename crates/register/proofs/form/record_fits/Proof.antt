@@ -15,25 +15,26 @@ parent-fits-requires c κs = search needs
 
 returns : tie.Need-returns
 unfolding recordFits
-returns c = rw (failed (c .before .parent-fits .ensures) (c .if1 .taken))
+returns c earlier long = rw (long, failed (c .before .parent-fits .ensures) (c .if1 .taken))
 
 returns-2 : tie.Need-returns-2
 unfolding recordFits
-returns-2 c =
+returns-2 c earlier long =
     let args = c .before .before .before .before .args in
-    rw (c .if2 .taken, and-false (parentFits (args .x) (args .r .parent)))
+    rw (long, c .if2 .taken, and-false (parentFits (args .x) (args .r .parent)))
 
 returns-3 : tie.Need-returns-3
 unfolding recordFits
-returns-3 c =
+returns-3 c earlier long =
     let args = c .before .before .before .before .before .before .args in
-    rw (c .if3 .taken, and-false (parentFits (args .x) (args .r .parent) && nonEmpty (args .r .origins)))
+    rw (long, c .if3 .taken, and-false (parentFits (args .x) (args .r .parent) && nonEmpty (args .r .origins)))
 
 returns-4 : tie.Need-returns-4
 unfolding recordFits
-returns-4 c =
+returns-4 c earlier long =
     let r = c .before .before .before .before .before .before .before .args .r in
     rw (
+      long,
       passed (c .before .before .before .before .before .before .parent-fits .ensures) (c .before .before .before .before .before .if1 .left),
       lt-ltb 0 (r .origins) (omega arith),
       lt-ltb 0 (r .sensitivities) (omega arith),

@@ -5,7 +5,7 @@ use mathlib.Core.List.{List, [], _∷_}
 use borrow.Author.Needs.{needs}
 use Rattle.card.specs.Reading.{cardLine}
 use Rattle.text.specs.Text.{lineText}
-use Rattle.text.specs.Puts.{Begins}
+use Rattle.text.specs.Puts.{StartsWith}
 use Rattle.replay.proofs.answer.answer_card.Statement.{statement}
 use Rattle.replay.proofs.answer.answer_card.Tie as tie
 
@@ -33,9 +33,10 @@ returns c =
     let numbers : c .before .before .before .before .before .before .line-of .result .refusal ∷ c .before .before .before .before .before .before .line-of .result .records ∷ c .before .before .before .before .before .before .line-of .result .directives ∷ [] ≡ cardLine card =
     rw (line .0, line .1 .0, line .1 .1, read .answer, ← (read .ledger)) in
     record {
-      line = subst (λ (ns : List ℕ). Begins (put .last .0) (put .result) (lineText ns [])) numbers (put .ensures .1 .1);
+      line = subst (λ (ns : List ℕ). StartsWith (put .last .0) (put .result) (lineText ns [])) numbers (put .ensures .1 .1);
       ledger = read .ledger;
-      sound = read .sound;
+      refused = λ e. read .unchanged (rw (read .answer) e);
+      invariant = read .invariant;
       goes-on = refl;
     }
 

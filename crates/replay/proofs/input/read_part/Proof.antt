@@ -1,4 +1,4 @@
--- `input::read_part`: the part that is read into is as long as the size says.
+-- `input::read_part`: the part that is read into is as long as the head says.
 use mathlib.Core.Path.{sym}
 use borrow.Author.Needs.{needs}
 use lib.Seq.{length-take-le}
@@ -12,13 +12,13 @@ same-length : tie.Need-same-length
 same-length c = search needs
 
 returns : tie.Need-returns
-returns c = search needs
+returns c = record { counts = search needs; size = λ n e. cc }
 
 same-length-2 : tie.Need-same-length-2
 same-length-2 c = search needs
 
 returns-2 : tie.Need-returns-2
-returns-2 c = search needs
+returns-2 c = record { counts = search needs; size = λ n e. cc }
 
 sub-get2 : tie.Need-sub-get2
 sub-get2 c = search needs
@@ -45,7 +45,7 @@ same-length-4 : tie.Need-same-length-4
 same-length-4 c = search needs
 
 returns-3 : tie.Need-returns-3
-returns-3 c = search needs
+returns-3 c = record { counts = search needs; size = λ n e. cc }
 
 same-length-5 : tie.Need-same-length-5
 same-length-5 c = search needs
@@ -54,7 +54,7 @@ same-length-6 : tie.Need-same-length-6
 same-length-6 c = search needs
 
 returns-4 : tie.Need-returns-4
-returns-4 c = (search needs, sym (length-take-le _ _ (search needs)))
+returns-4 c = record { counts = (search needs, sym (length-take-le _ _ (search needs))); size = λ n e. cc (c .before .before .before .before .before .get2 .ensures) }
 
 pub read-part-spec : {M : Type 1} → statement M
 read-part-spec =

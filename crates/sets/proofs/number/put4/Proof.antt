@@ -1,76 +1,35 @@
--- `number::put4`: dividing by 256 two and three times is dividing by 65536 and 16777216; the first byte needs no remainder.
-use Prim.Native.Nat.{_/_}
-use native.Mathlib.Nat.{mod-eq-of-lt, div-div-eq-div-mul}
-use native.Mathlib.Numerals.{add-one, add-two, add-three}
+-- `number::put4`: four bytes are two and two.
 use borrow.Author.Needs.{needs}
-use lib.ListN.{length-set}
-use Rattle.sets.specs.Numbers.{bytes}
+use Rattle.sets.proofs.Numbers.{bytes-halves}
+use Rattle.sets.proofs.PutLaws.{put-first, put-next}
 use Rattle.sets.proofs.number.put4.Statement.{statement}
 use Rattle.sets.proofs.number.put4.Tie as tie
 
-cast-s : tie.Need-cast-s
-cast-s c = search needs
+cast-put2 : tie.Need-cast-put2
+cast-put2 c = search needs
 
-slice-write-s : tie.Need-slice-write-s
-slice-write-s c = search needs
+put2-requires : tie.Need-put2-requires
+put2-requires c κs = search needs
 
-cast-s-2 : tie.Need-cast-s-2
-cast-s-2 c = search needs
+add-put2 : tie.Need-add-put2
+add-put2 c = search needs
 
-add-s : tie.Need-add-s
-add-s c = search needs
+cast-put2-2 : tie.Need-cast-put2-2
+cast-put2-2 c = search needs
 
-slice-write-s-2 : tie.Need-slice-write-s-2
-slice-write-s-2 c = simp length-set (search needs)
-
-cast-s-3 : tie.Need-cast-s-3
-cast-s-3 c = search needs
-
-add-s-2 : tie.Need-add-s-2
-add-s-2 c = search needs
-
-slice-write-s-3 : tie.Need-slice-write-s-3
-slice-write-s-3 c = simp length-set (search needs)
-
-cast-s-4 : tie.Need-cast-s-4
-cast-s-4 c = search needs
-
-add-s-3 : tie.Need-add-s-3
-add-s-3 c = search needs
-
-slice-write-s-4 : tie.Need-slice-write-s-4
-slice-write-s-4 c = simp length-set (search needs)
+put2-requires-2 : tie.Need-put2-requires-2
+put2-requires-2 c κs = search needs
 
 same-length : tie.Need-same-length
 same-length c = search needs
 
 returns : tie.Need-returns
-unfolding bytes
 returns c =
-    let v = c .args .v in
-    rw (
-      div-div-eq-div-mul v 256 256,
-      div-div-eq-div-mul v 65536 256,
-      mod-eq-of-lt {n = v / 16777216} {m = 256} (search needs),
-      add-one,
-      add-two,
-      add-three,
-    )
+    let low = c .before .before in
+    let high = low .before .before .before .before in
+    rw bytes-halves (put-next 2 _ (put-first _ 2 _ (high .put2 .ensures)) (low .put22 .ensures) .stored)
 
 pub put4-spec : {M : Type 1} → statement M
 put4-spec =
     tie.close
-    (tie.spec
-    cast-s
-    slice-write-s
-    cast-s-2
-    add-s
-    slice-write-s-2
-    cast-s-3
-    add-s-2
-    slice-write-s-3
-    cast-s-4
-    add-s-3
-    slice-write-s-4
-    same-length
-    returns)
+    (tie.spec cast-put2 put2-requires add-put2 cast-put2-2 put2-requires-2 same-length returns)

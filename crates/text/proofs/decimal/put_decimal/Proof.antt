@@ -1,53 +1,30 @@
 -- `decimal::put_decimal`: the fewest digits that hold the number are its text.
-use mathlib.Core.Path.{_≡_, _∙_}
-use native.Mathlib.Omega.{arith}
 use borrow.Author.Needs.{needs}
-use lib.ListN.{take}
-use Rattle.text.specs.Text.{decimal}
-use Rattle.text.proofs.DecimalLaws.{decimal-of, at-most-20}
+use Rattle.text.proofs.DecimalLaws.{decimal-of, digits-long}
 use Rattle.text.proofs.decimal.put_decimal.Statement.{statement}
 use Rattle.text.proofs.decimal.put_decimal.Tie as tie
 
-decimal-requires : tie.Need-decimal-requires
-decimal-requires c κs = search needs
+places-requires : tie.Need-places-requires
+places-requires c κs = search needs
 
-array-share-prefix-digits : tie.Need-array-share-prefix-digits
-array-share-prefix-digits c = search needs
+put-digits-requires : tie.Need-put-digits-requires
+put-digits-requires c κs = search needs
 
-slice-aggregate-put-bytes : tie.Need-slice-aggregate-put-bytes
-slice-aggregate-put-bytes c = search needs
-
-put-bytes-requires : tie.Need-put-bytes-requires
-put-bytes-requires c κs =
-    let start = c .before .before .before .before .before in
-    let made = c .before .before .decimal in
-    omega (arith, made .ensures .0, at-most-20 (start .args .n) (made .result) (search needs) (made .ensures .1 .0))
+add-result : tie.Need-add-result
+add-result c = search needs
 
 same-length : tie.Need-same-length
 same-length c = search needs
 
 returns : tie.Need-returns
 returns c =
-    let start = c .before .before .before .before .before .before .before .before in
-    let made = c .before .before .before .before .before .decimal in
-    let text : take (made .result) (made .last .1 .0) ≡ decimal (start .args .n) =
-    made .ensures .1 .1 ∙ decimal-of (start .args .n) (made .result) (made .ensures .1 .0) in (
-      rw text at (c .before .before .put-bytes .ensures),
-      omega (
-        arith,
-        made .ensures .0,
-        at-most-20 (start .args .n) (made .result) (search needs) (made .ensures .1 .0),
-        c .before .before .put-bytes .ensures .place,
-      ),
+    let counted = c .before .before .before .before in
+    let n = counted .before .before .args .n in (
+      rw (← decimal-of n (counted .places .result) (counted .places .ensures .0))
+          (record { stored = c .before .before .put-digits .ensures; place = rw digits-long }),
+      search needs,
     )
 
 pub put-decimal-spec : {M : Type 1} → statement M
 put-decimal-spec =
-    tie.close
-    (tie.spec
-    decimal-requires
-    array-share-prefix-digits
-    slice-aggregate-put-bytes
-    put-bytes-requires
-    same-length
-    returns)
+    tie.close (tie.spec places-requires put-digits-requires add-result same-length returns)

@@ -3,7 +3,7 @@ use mathlib.Core.Path.{_≡_}
 use native.Mathlib.Omega.{arith}
 use borrow.Author.Needs.{needs}
 use lib.ListN.{length, take, length-take}
-use Rattle.text.specs.Text.{lineBody, malformed}
+use Rattle.text.specs.Text.{lineBody, malformedWord}
 use Rattle.text.proofs.PutLaws.{puts-more}
 use Rattle.text.proofs.TextLaws.{body-some}
 use Rattle.text.proofs.line.put_body.Statement.{statement}
@@ -19,7 +19,7 @@ same-length : tie.Need-same-length
 same-length c = search needs
 
 returns : tie.Need-returns
-unfolding lineBody malformed
+unfolding lineBody malformedWord
 returns c = (rw (c .before .before .before .before .before .if1 .taken) (c .before .before .put-bytes .ensures), search needs)
 
 put-numbers-requires : tie.Need-put-numbers-requires

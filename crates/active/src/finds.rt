@@ -1,0 +1,48 @@
+// What is found in an active list.
+use crate::ActiveList;
+use directive::Request;
+use directive::lowest::Best;
+ghost use mathlib.Core.Path.{_≡_};
+ghost use mathlib.Core.List.{List};
+ghost use Prim.Native.Nat.{_≤_};
+ghost use lib.ListN.{length, take};
+ghost use lib.Dec.{eqb};
+ghost use Rattle.sets.specs.Quantifiers.{someIn, keep};
+ghost use Rattle.register.specs.declared.Record.{Record as Held};
+ghost use Rattle.register.specs.Register.{holding};
+ghost use Rattle.directive.specs.Matching.{matches};
+ghost use Rattle.directive.specs.Lowest.{bestOf};
+ghost use Rattle.active.specs.Active.{directivesOf, ActiveInvariant};
+
+// Whether the directive of that number is active.
+pub fn is_active(l: ActiveList, number: u16) -> bool
+    ensures { λ b. ⌜ b ≡ someIn (λ d. eqb (d .number) number) (directivesOf l) ⌝ }
+{
+    let n = crate::size(l);
+    for i in 0..n {
+        let a = l.entries[i];
+        let d = a.directive;
+        if d.number == number {
+            return true;
+        }
+    }
+    false
+}
+
+// The lowest of the directives that match the request.
+pub fn lowest_match(l: ActiveList, parents: &[u8; 16], count: usize, q: Request) -> Best
+    ensures { λ r. ⌜ ((rs : List Held) → length rs ≤ 128 → ActiveInvariant rs l → r ≡ bestOf (keep (λ d. matches (holding (take count (now (parents .entry))) rs) d q) (directivesOf l))) ⌝ }
+{
+    let n = crate::size(l);
+    let x = q.record as usize;
+    let mut best = directive::lowest::nothing();
+    for i in 0..n {
+        let a = l.entries[i];
+        let w = a.selected;
+        let d = a.directive;
+        let selected = sets::record_set::member(w, x);
+        let b = directive::matching::matches(parents, count, d, q, selected);
+        best = directive::lowest::lower_where(best, d, b);
+    }
+    best
+}

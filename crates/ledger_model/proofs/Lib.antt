@@ -1,0 +1,13 @@
+pub mod Questions
+pub mod Passed
+pub mod Lowest
+pub mod Agree
+pub mod Enrolled
+pub mod Soundness
+pub mod Balance
+pub mod Reordering
+pub mod Covering
+pub mod Clash
+pub mod Saying
+pub mod Order
+pub mod Cases

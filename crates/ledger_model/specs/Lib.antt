@@ -1,0 +1,9 @@
+pub mod Model
+pub mod Answer
+pub mod Decision
+pub mod Xacml
+pub mod Questions
+pub mod Calls
+pub mod Compatible
+pub mod Invariant
+pub mod Cases

@@ -1,2 +1,0 @@
-pub mod WalkLaws
-pub mod CarryLaws

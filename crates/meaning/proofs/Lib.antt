@@ -1,7 +1,0 @@
-pub mod Requests
-pub mod Fresh
-pub mod MinuteLaws
-pub mod ConflictLaws
-pub mod BaselineLaws
-pub mod RedundantLaws
-pub mod Exact

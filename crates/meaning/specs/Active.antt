@@ -1,8 +1,0 @@
--- What the search asks of a list of directives.
-use mathlib.Core.List.{List, List·Memᴰ}
-use Rattle.register.specs.Register.{Contents}
-use Rattle.directive.specs.declared.Directive.{Directive}
-use Rattle.meaning.specs.Search.{Fit}
-
-abbrev pub AllFit : Contents → List Directive → Type 0
-AllFit c es = (e : Directive) → List·Memᴰ e es → Fit c e

@@ -1,6 +1,0 @@
-pub mod Requests
-pub mod Meaning
-pub mod Search
-pub mod Judgement
-pub mod Found
-pub mod Active

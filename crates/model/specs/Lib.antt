@@ -1,9 +1,0 @@
-pub mod Model
-pub mod Answer
-pub mod Decision
-pub mod Xacml
-pub mod Questions
-pub mod Calls
-pub mod Compatible
-pub mod Sound
-pub mod Cases

@@ -1,3 +1,0 @@
-// Redundancy: the tables of the search, and the search.
-pub mod search;
-pub mod tables;

@@ -1,0 +1,3 @@
+// Redundancy: the tables of the search, and the search.
+pub mod search;
+mod tables;
