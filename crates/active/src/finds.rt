@@ -9,7 +9,7 @@ ghost use lib.ListN.{length, take};
 ghost use lib.Dec.{eqb};
 ghost use Rattle.sets.specs.Quantifiers.{someIn, keep};
 ghost use Rattle.register.specs.declared.Record.{Record as Held};
-ghost use Rattle.register.specs.Register.{holding};
+ghost use Rattle.register.specs.Register.{recordPlaces, holding};
 ghost use Rattle.directive.specs.Matching.{matches};
 ghost use Rattle.directive.specs.Lowest.{bestOf};
 ghost use Rattle.active.specs.Active.{directivesOf, ActiveInvariant};
@@ -30,8 +30,13 @@ pub fn is_active(l: ActiveList, number: u16) -> bool
 }
 
 // The lowest of the directives that match the request.
-pub fn lowest_match(l: ActiveList, parents: &[u8; 16], count: usize, q: Request) -> Best
-    ensures { λ r. ⌜ ((rs : List Held) → length rs ≤ 128 → ActiveInvariant rs l → r ≡ bestOf (keep (λ d. matches (holding (take count (now (parents .entry))) rs) d q) (directivesOf l))) ⌝ }
+pub fn lowest_match(
+    l: ActiveList,
+    parents: &[u8; register::ROLES],
+    count: usize,
+    q: Request,
+) -> Best
+    ensures { λ r. ⌜ ((rs : List Held) → length rs ≤ recordPlaces → ActiveInvariant rs l → r ≡ bestOf (keep (λ d. matches (holding (take count (now (parents .entry))) rs) d q) (directivesOf l))) ⌝ }
 {
     let n = crate::size(l);
     let x = q.record as usize;

@@ -11,7 +11,13 @@ ghost use Rattle.directive.specs.Selection.{selects};
 ghost use Rattle.directive.specs.Matching.{subjectCovers, matches};
 
 // Whether the subject covers the person in the role, among the first `count` roles by their parents.
-pub fn subject_covers(s: Subject, parents: &[u8; 16], count: usize, person: u16, role: u16) -> bool
+pub fn subject_covers(
+    s: Subject,
+    parents: &[u8; register::ROLES],
+    count: usize,
+    person: u16,
+    role: u16,
+) -> bool
     ensures { λ b. ⌜ b ≡ subjectCovers (take count (now (parents .entry))) s person role ⌝ }
 {
     match s {
@@ -21,7 +27,13 @@ pub fn subject_covers(s: Subject, parents: &[u8; 16], count: usize, person: u16,
 }
 
 // Whether the directive matches the request; `selected` tells whether it selects the record asked for.
-pub fn matches(parents: &[u8; 16], count: usize, d: Directive, q: Request, selected: bool) -> bool
+pub fn matches(
+    parents: &[u8; register::ROLES],
+    count: usize,
+    d: Directive,
+    q: Request,
+    selected: bool,
+) -> bool
     ensures { λ b. ⌜ ((rs : List Held) → selected ≡ selects rs d (q .«record») → b ≡ matches (holding (take count (now (parents .entry))) rs) d q) ⌝ }
 {
     if !selected {

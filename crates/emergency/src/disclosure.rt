@@ -34,7 +34,7 @@ fn doubled(word: u64, b: bool) -> u64
 }
 
 // The places whose labels share a bit with the scope: both words from the highest bit down.
-fn labelled(records: [Record; 128], scope: u16) -> RecordSet
+fn labelled(records: [Record; register::RECORDS], scope: u16) -> RecordSet
     ensures { λ w. ⌜ w ≡ recordSetOf (λ x. shares 16 (recordAt records x .labels) scope) ⌝ }
 {
     let mut low: u64 = 0;

@@ -9,7 +9,7 @@ ghost use Prim.Native.Nat.{_<_, _≤_};
 ghost use lib.ListN.{length, take};
 ghost use Rattle.sets.specs.Quantifiers.{keep};
 ghost use Rattle.register.specs.declared.Record.{Record as Held};
-ghost use Rattle.register.specs.Register.{holding};
+ghost use Rattle.register.specs.Register.{recordPlaces, holding};
 ghost use Rattle.directive.specs.Lowest.{bestOf};
 ghost use Rattle.active.specs.Active.{directivesOf, activeIn};
 ghost use Rattle.validation_meaning.specs.Meaning.{conflict};
@@ -18,7 +18,7 @@ ghost use Rattle.validation_meaning.specs.Active.{AllFit};
 ghost use Rattle.validation_conflict.specs.Given.{Given};
 
 // Whether some person in some role is covered by both subjects.
-fn subjects_meet(parents: &[u8; 16], count: usize, s: Subject, t: Subject) -> bool
+fn subjects_meet(parents: &[u8; register::ROLES], count: usize, s: Subject, t: Subject) -> bool
     ensures { λ b. ⌜ b ≡ subjectsMeet (take count (now (parents .entry))) s t ⌝ }
 {
     match s {
@@ -34,8 +34,14 @@ fn subjects_meet(parents: &[u8; 16], count: usize, s: Subject, t: Subject) -> bo
 }
 
 // Whether a and e, each with what it selects, are of opposite effect and overlap in each dimension.
-fn conflicts(parents: &[u8; 16], count: usize, clock: u32, a: Active, e: Active) -> bool
-    ensures { λ b. ⌜ ((rs : List Held) → length rs ≤ 128 → a ≡ activeIn rs (a .directive) → e ≡ activeIn rs (e .directive) → b ≡ conflictFound (holding (take count (now (parents .entry))) rs) clock (a .directive) (e .directive)) ⌝ }
+fn conflicts(
+    parents: &[u8; register::ROLES],
+    count: usize,
+    clock: u32,
+    a: Active,
+    e: Active,
+) -> bool
+    ensures { λ b. ⌜ ((rs : List Held) → length rs ≤ recordPlaces → a ≡ activeIn rs (a .directive) → e ≡ activeIn rs (e .directive) → b ≡ conflictFound (holding (take count (now (parents .entry))) rs) clock (a .directive) (e .directive)) ⌝ }
 {
     let d = a.directive;
     let f = e.directive;
@@ -68,7 +74,7 @@ fn conflicts(parents: &[u8; 16], count: usize, clock: u32, a: Active, e: Active)
 
 // The lowest of the active directives that a conflicts with.
 pub fn lowest_conflict(
-    parents: &[u8; 16],
+    parents: &[u8; register::ROLES],
     count: usize,
     clock: u32,
     a: Active,

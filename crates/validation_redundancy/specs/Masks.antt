@@ -13,8 +13,9 @@ use Rattle.sets.specs.Bits.{bit, setOf}
 use Rattle.sets.specs.RecordSets.{contains, recordSetOf}
 use Rattle.sets.specs.declared.record_set.RecordSet.{RecordSet}
 use Rattle.register.specs.declared.Record.{Record}
-use Rattle.register.specs.Register.{Contents}
+use Rattle.register.specs.Register.{recordPlaces, Contents}
 use Rattle.directive.specs.declared.Directive.{Directive}
+use Rattle.directive.specs.Places.{activePlaces}
 use Rattle.directive.specs.Nothing.{noDirective}
 use Rattle.directive.specs.Selection.{selects}
 use Rattle.directive.specs.Matching.{inMinutes}
@@ -33,7 +34,7 @@ recordRow rs ok e = recordSetOf (λ x. ok e && selects rs e x)
 
 -- the directives whose row has k
 abbrev pub column : List ℕ → ℕ → ℕ
-column rows k = setOf 32 (λ i. bit k (getD rows i 0))
+column rows k = setOf activePlaces (λ i. bit k (getD rows i 0))
 
 -- the directives whose row of records has x: the rows are two words each
 abbrev pub recordColumn : List ℕ → List ℕ → ℕ → ℕ
@@ -65,7 +66,7 @@ originsCovered x byOrigin byPurpose byRole t =
 
 unfoldable pub allCovered : Extent → List ℕ → List ℕ → List ℕ → List ℕ → List ℕ → Minutes → Bool
 allCovered x low high byOrigin byPurpose byRole t =
-    allOf 128 (contains (x .records)) (λ k. originsCovered x byOrigin byPurpose byRole t (recordColumn low high k))
+    allOf recordPlaces (contains (x .records)) (λ k. originsCovered x byOrigin byPurpose byRole t (recordColumn low high k))
 
 -- The first n of `size` places hold the values of f, and the others 0.
 pub record RowHolds (size : ℕ) (f : ℕ → ℕ) (n : ℕ) (row : List ℕ) : Type 0 where
@@ -74,7 +75,7 @@ pub record RowHolds (size : ℕ) (f : ℕ → ℕ) (n : ℕ) (row : List ℕ) : 
 
 -- a row of the first n of the directives es
 abbrev pub Row : List Directive → ℕ → (Directive → ℕ) → List ℕ → Type 0
-Row es n f row = RowHolds 32 (λ i. f (getD es i noDirective)) n row
+Row es n f row = RowHolds activePlaces (λ i. f (getD es i noDirective)) n row
 
 -- The rows of the first n of the directives es, for the draft d; those that pass `ok` count.
 pub record RowsOf (c : Contents) (ok : Directive → Bool) (d : Directive) (es : List Directive) (n : ℕ) (r : Rows) : Type 0 where

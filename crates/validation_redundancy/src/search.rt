@@ -45,8 +45,8 @@ fn known(done: u32, mask: u32) -> bool
 // match so far is narrowed; one that has in it all of the last mask that left nothing uncovered leaves nothing uncovered.
 fn all_covered<'a>(
     extent: Extent,
-    low: &'a [u64; 32],
-    high: &'a [u64; 32],
+    low: &'a [u64; active::PLACES],
+    high: &'a [u64; active::PLACES],
     by_origin: &[u32; 16],
     by_purpose: &[u32; 16],
     by_role: &[u32; 16],
@@ -114,7 +114,13 @@ fn all_covered<'a>(
 }
 
 // Whether the directive is redundant beside the active ones.
-pub fn is_redundant(parents: &[u8; 16], count: usize, clock: u32, a: Active, l: ActiveList) -> bool
+pub fn is_redundant(
+    parents: &[u8; register::ROLES],
+    count: usize,
+    clock: u32,
+    a: Active,
+    l: ActiveList,
+) -> bool
     ensures { λ b. ⌜ ((rs : List Held) → Given rs a l → b ≡ redundantFound (holding (take count (now (parents .entry))) rs) clock (a .directive) (directivesOf l)) ⌝ }
     ensures { λ b. ⌜ ((rs : List Held) → Given rs a l → Fit (holding (take count (now (parents .entry))) rs) (a .directive) → b ≡ redundant (holding (take count (now (parents .entry))) rs) clock (a .directive) (directivesOf l)) ⌝ }
 {

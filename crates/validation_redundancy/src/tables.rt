@@ -14,7 +14,8 @@ ghost use Rattle.sets.specs.Quantifiers.{pick, oneIf};
 ghost use Rattle.sets.specs.Bits.{bit, setOf};
 ghost use Rattle.sets.specs.RecordSets.{recordSetOf};
 ghost use Rattle.register.specs.declared.Record.{Record as Held};
-ghost use Rattle.register.specs.Register.{holding};
+ghost use Rattle.register.specs.Register.{recordPlaces, holding};
+ghost use Rattle.directive.specs.Places.{activePlaces};
 ghost use Rattle.directive.specs.Selection.{selects};
 ghost use Rattle.active.specs.Active.{directivesOf, activeIn, ActiveInvariant};
 ghost use Rattle.validation_meaning.specs.Meaning.{sameEffect};
@@ -23,13 +24,13 @@ ghost use Rattle.validation_redundancy.specs.Masks.{roleRow, column, rec
 
 // The rows of the active directives, one number each.
 pub struct Rows {
-    pub roles: [u64; 32],
-    pub origins: [u64; 32],
-    pub purposes: [u64; 32],
-    pub low: [u64; 32],
-    pub high: [u64; 32],
-    pub from: [u32; 32],
-    pub until: [u32; 32],
+    pub roles: [u64; active::PLACES],
+    pub origins: [u64; active::PLACES],
+    pub purposes: [u64; active::PLACES],
+    pub low: [u64; active::PLACES],
+    pub high: [u64; active::PLACES],
+    pub from: [u32; active::PLACES],
+    pub until: [u32; active::PLACES],
 }
 
 fn wide(x: u16) -> u64
@@ -39,7 +40,7 @@ fn wide(x: u16) -> u64
 }
 
 // The roles in which the subject t covers the person who stands for s. There are at most 16 roles.
-pub fn standing_roles(parents: &[u8; 16], count: usize, s: Subject, t: Subject) -> u16
+pub fn standing_roles(parents: &[u8; register::ROLES], count: usize, s: Subject, t: Subject) -> u16
     ensures { λ r. ⌜ r ≡ setOf 16 (λ k. ltb k (length (take count (now (parents .entry)))) && standsFor (take count (now (parents .entry))) s t k) ⌝ }
     ensures { λ r. ⌜ length (take count (now (parents .entry))) ≤ 16 ⌝ }
 {
@@ -68,7 +69,7 @@ fn every_role(n: usize) -> u16
 }
 
 // The roles in which e covers the person who stands for d's subject.
-fn role_row(parents: &[u8; 16], count: usize, d: Directive, e: Directive) -> u64
+fn role_row(parents: &[u8; register::ROLES], count: usize, d: Directive, e: Directive) -> u64
     ensures { λ r. ⌜ r ≡ roleRow (take count (now (parents .entry))) d e ⌝ }
 {
     let s = d.subject;
@@ -87,11 +88,11 @@ fn record_row(counts: bool, a: Active) -> RecordSet
 }
 
 // The rows of the active directives for the draft d; those of its effect count.
-pub fn rows_of(parents: &[u8; 16], count: usize, d: Directive, l: ActiveList) -> Rows
+pub fn rows_of(parents: &[u8; register::ROLES], count: usize, d: Directive, l: ActiveList) -> Rows
     ensures { λ r. ⌜ ((rs : List Held) → ActiveInvariant rs l → RowsOf (holding (take count (now (parents .entry))) rs) (sameEffect d) d (directivesOf l) (length (directivesOf l)) r) ⌝ }
 {
-    let none = [0u64; 32];
-    let never = [0u32; 32];
+    let none = [0u64; active::PLACES];
+    let never = [0u32; active::PLACES];
     let mut rows = Rows {
         roles: none,
         origins: none,
@@ -117,7 +118,7 @@ pub fn rows_of(parents: &[u8; 16], count: usize, d: Directive, l: ActiveList) ->
 }
 
 // The directives whose row has k.
-fn column_of(rows: &[u64; 32], k: usize) -> u32
+fn column_of(rows: &[u64; active::PLACES], k: usize) -> u32
     requires { ⌜ k < 64 ⌝ }
     ensures { λ r. ⌜ r ≡ column (now (rows .entry)) k ⌝ }
 {
@@ -129,14 +130,14 @@ fn column_of(rows: &[u64; 32], k: usize) -> u32
 }
 
 fn bit_at(b: bool, i: usize) -> u32
-    requires { ⌜ i < 32 ⌝ }
+    requires { ⌜ i < activePlaces ⌝ }
     ensures { λ r. ⌜ r ≡ oneIf b * 2 ^ i ⌝ }
 {
     if b { 1 << i } else { 0 }
 }
 
 // The masks of those numbers that are in the set, and 0 for the others.
-pub fn columns(rows: &[u64; 32], set: u16) -> [u32; 16]
+pub fn columns(rows: &[u64; active::PLACES], set: u16) -> [u32; 16]
     ensures { λ r. ⌜ ((k : ℕ) → k < 16 → getD r k 0 ≡ pick (bit k set) (column (now (rows .entry)) k) 0) ⌝ }
 {
     let mut table = [0u32; 16];
@@ -148,8 +149,8 @@ pub fn columns(rows: &[u64; 32], set: u16) -> [u32; 16]
     table
 }
 
-pub fn record_column(low: &[u64; 32], high: &[u64; 32], x: usize) -> u32
-    requires { ⌜ x < 128 ⌝ }
+pub fn record_column(low: &[u64; active::PLACES], high: &[u64; active::PLACES], x: usize) -> u32
+    requires { ⌜ x < recordPlaces ⌝ }
     ensures { λ r. ⌜ r ≡ recordColumn (now (low .entry)) (now (high .entry)) x ⌝ }
 {
     if x < 64 {
@@ -160,8 +161,13 @@ pub fn record_column(low: &[u64; 32], high: &[u64; 32], x: usize) -> u32
 }
 
 // Those of the first n directives that match at the minute.
-fn minute_column(from: &[u32; 32], until: &[u32; 32], n: usize, minute: u32) -> u32
-    requires { ⌜ n ≤ 32 ⌝ }
+fn minute_column(
+    from: &[u32; active::PLACES],
+    until: &[u32; active::PLACES],
+    n: usize,
+    minute: u32,
+) -> u32
+    requires { ⌜ n ≤ activePlaces ⌝ }
     ensures { λ r. ⌜ r ≡ minuteColumn (now (from .entry)) (now (until .entry)) n minute ⌝ }
 {
     let mut mask: u32 = 0;
@@ -182,8 +188,8 @@ pub struct Minutes {
 }
 
 // Boundary minute i: the first is where the draft starts, and the others are where the directives end.
-fn boundary(first: u32, until: &[u32; 32], i: usize) -> u32
-    requires { ⌜ i ≤ 32 ⌝ }
+fn boundary(first: u32, until: &[u32; active::PLACES], i: usize) -> u32
+    requires { ⌜ i ≤ activePlaces ⌝ }
     ensures { λ r. ⌜ r ≡ getD (first ∷ now (until .entry)) i 0 ⌝ }
 {
     if i == 0 {
@@ -196,11 +202,11 @@ fn boundary(first: u32, until: &[u32; 32], i: usize) -> u32
 pub fn minutes_of<'a>(
     clock: u32,
     d: Directive,
-    from: &'a [u32; 32],
-    until: &'a [u32; 32],
+    from: &'a [u32; active::PLACES],
+    until: &'a [u32; active::PLACES],
     n: usize,
 ) -> Minutes
-    requires { ⌜ n ≤ 32 ⌝ }
+    requires { ⌜ n ≤ activePlaces ⌝ }
     ensures { λ r. ⌜ MinutesOf (start clock d) (d .until) (now (from .entry)) (now (until .entry)) n r ⌝ }
 {
     let first = validation_conflict::minutes::start(clock, d);
