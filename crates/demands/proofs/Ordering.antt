@@ -1,5 +1,5 @@
--- Compatible drafts, committed in any two orders on a sound ledger, leave every decide call the same effect and basis, now
--- and after the same advances.
+-- Compatible drafts, committed in any two orders on a ledger that keeps the invariant, leave every decide call the same effect
+-- and basis, now and after the same advances.
 use Prim.Native.Nat.{ℕ, _^_, _<_}
 use mathlib.Core.Path.{_≡_, refl, sym, ap, _∙_}
 use mathlib.Core.Bool.{true}

@@ -1,4 +1,4 @@
--- Every ledger that is meant is sound, and a list of calls on a sound ledger gives the reference model's answers and ledger.
+-- Every reachable ledger keeps the invariant, and a list of calls on a ledger that keeps it gives the reference model's answers and ledger.
 use mathlib.Core.Path.{_≡_, refl}
 use mathlib.Core.List.{List}
 use Rattle.validation_meaning.specs.Judgement.{meant}

@@ -7,7 +7,7 @@ use register::Register;
 ghost use mathlib.Core.Path.{_≡_};
 ghost use Rattle.register.specs.Register.{contents};
 ghost use Rattle.directive.specs.Matching.{requestAt};
-ghost use Rattle.ledger_model.specs.Questions.{isInRange};
+ghost use Rattle.ledger_model.specs.Questions.{requesterInRange, isInRange};
 ghost use Rattle.ledger.specs.Promises.{Decides};
 
 // How many origins and purposes there are.
@@ -15,17 +15,24 @@ const ORIGINS: u8 = 16;
 
 const PURPOSES: u8 = 11;
 
+// The requester's part of question 17.
+pub fn requester_in_range(g: Register, role: u16, origin: u8, purpose: u8) -> bool
+    ensures { λ b. ⌜ b ≡ requesterInRange (contents g) role origin purpose ⌝ }
+{
+    if sets::bounds::least(g.role_count, register::ROLES) <= role as usize {
+        return false;
+    }
+    if ORIGINS <= origin {
+        return false;
+    }
+    purpose < PURPOSES
+}
+
 // Question 17.
 fn in_range(g: Register, q: Query) -> bool
     ensures { λ b. ⌜ b ≡ isInRange (contents g) q ⌝ }
 {
-    if sets::bounds::least(g.role_count, register::ROLES) <= q.role as usize {
-        return false;
-    }
-    if ORIGINS <= q.origin {
-        return false;
-    }
-    if PURPOSES <= q.purpose {
+    if !requester_in_range(g, q.role, q.origin, q.purpose) {
         return false;
     }
     (q.record as usize) < sets::bounds::least(g.record_count, register::RECORDS)

@@ -3,6 +3,7 @@ pub mod Keep
 pub mod Lists
 pub mod Ranges
 pub mod BitLaws
+pub mod SetLaws
 pub mod WordLaws
 pub mod FillLaws
 pub mod Numbers

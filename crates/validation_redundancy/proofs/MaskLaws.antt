@@ -1,9 +1,8 @@
--- Laws of the tables of the search: sets that are built bit by bit, rows that are filled from the front, and masks of minutes.
-use Prim.Native.Nat.{ℕ, zero, suc, _+_, _-_, _*_, _^_, _<_, _≤_}
+-- Laws of the tables of the search: rows that are filled from the front, and masks of minutes.
+use Prim.Native.Nat.{ℕ, zero, suc, _+_, _-_, _<_, _≤_}
 use mathlib.Core.Path.{_≡_, refl, sym, ap, _∙_}
 use mathlib.Core.Bool.{Bool, true, false, and-true}
 use mathlib.Core.List.{List, _∷_}
-use native.Mathlib.Nat.{lt-of-lt-of-le}
 use native.Mathlib.Numerals.{add-one, sub-one}
 use native.Mathlib.Decide.{ℕ-discrete, decLt}
 use native.Mathlib.Omega.{arith}
@@ -11,45 +10,14 @@ use borrow.Author.Tests.{lt-ltb, le-ltb}
 use lib.ListN.{length, getD, set, replicate, length-set, length-replicate, getD-replicate}
 use lib.Seq.{getD-set-same, getD-set-other, set-getD}
 use lib.Dec.{ltb}
-use lib.Pow.{pow-mono}
-use Rattle.sets.specs.Quantifiers.{pick, oneIf, allBelow, allOf}
-use Rattle.sets.specs.Bits.{setOf}
+use Rattle.sets.specs.Quantifiers.{pick, allBelow, allOf}
 use Rattle.sets.proofs.Ranges.{all-same}
-use Rattle.sets.proofs.BitLaws.{set-bound, set-bit, set-ext}
 use Rattle.register.specs.Roles.{covers}
 use Rattle.directive.specs.declared.Subject.{Subject}
 use Rattle.directive.specs.declared.Subject.the-variants.{Person, Role}
 use Rattle.directive.specs.Matching.{inMinutes}
 use Rattle.validation_meaning.specs.Search.{standsFor}
 use Rattle.validation_redundancy.specs.Masks.{minuteColumn, RowHolds, MasksAt, MinutesOf}
-
-module _ (p : ℕ → Bool) where
-  -- one number more
-  pub set-more : (q : ℕ) → setOf q p + oneIf (p q) * 2 ^ q ≡ setOf (q + 1) p
-  unfolding setOf
-  set-more q = rw add-one
-
-  pub set-same : (n : ℕ) (q : ℕ → Bool) → ((k : ℕ) → k < n → p k ≡ q k) → setOf n p ≡ setOf n q
-  set-same n q f = set-ext n (setOf n p) q (set-bound n p) (λ k h. set-bit n k p ∙ rw (lt-ltb k n h) (f k h))
-
-  module _ (q n : ℕ) (h : q ≤ n) where
-    pub set-small : setOf q p < 2 ^ n
-    set-small = lt-of-lt-of-le (set-bound q p) (pow-mono h)
-
-    -- where no number from q on passes
-    pub set-cut : ((k : ℕ) → k < n → q ≤ k → p k ≡ false) → setOf q p ≡ setOf n p
-    set-cut none =
-        set-ext n (setOf q p) p set-small
-        (λ k l.
-        set-bit q k p
-        ∙ elim (decLt k q) [
-          | yes b ↦ rw (lt-ltb k q b)
-          | no b ↦ rw (le-ltb k q (omega arith)) (sym (none k l (omega arith)))
-        ])
-
-  pub set-none : (n : ℕ) → ((k : ℕ) → p k ≡ false) → 0 ≡ setOf n p
-  unfolding setOf
-  set-none n none = set-cut 0 n (omega arith) (λ k _ _. none k)
 
 -- in role r a role stands for what it covers, whoever the draft's subject is
 pub stands-role : (roles : List ℕ) (s : Subject) (n r : ℕ) → standsFor roles s (Role n) r ≡ covers roles n r

@@ -20,6 +20,7 @@ use Rattle.sets.proofs.Quantifiers.{same-test, and-both, and-where, every-of}
 use Rattle.sets.proofs.Lists.{all-append, some-snoc, some-alike}
 use Rattle.sets.proofs.Ranges.{all-same, some-narrow}
 use Rattle.sets.proofs.BitLaws.{bit-and, bit-zero, set-bit, set-bound, shares-and}
+use Rattle.sets.proofs.SetLaws.{set-small}
 use Rattle.sets.proofs.WordLaws.{contains-low, contains-high, contains-words}
 use Rattle.register.specs.Register.{Contents}
 use Rattle.directive.specs.declared.Directive.{Directive}
@@ -32,7 +33,6 @@ use Rattle.validation_redundancy.specs.declared.tables.Minutes.{Minutes}
 use Rattle.validation_meaning.specs.Requests.{origins, purposes}
 use Rattle.validation_meaning.specs.Search.{fromOrigin, forPurpose, start, standsFor, coveredAt, boundaries, includedFound}
 use Rattle.validation_redundancy.specs.Masks.{roleRow, recordRow, column, recordColumn, minuteColumn, minutesCovered, levelCovered, allCovered, Row, RowsOf, MinutesOf}
-use Rattle.validation_redundancy.proofs.MaskLaws.{set-small}
 
 -- the values below n that pass f, where those are the values below m that pass g
 of-same :

@@ -1,4 +1,4 @@
--- `emergency::opened` reads the table where the state is in the set; 0 has no label.
+-- `scope::opened` reads the table where the state is in the set; 0 has no label.
 use mathlib.Core.Path.{_∙_}
 use borrow.Author.Needs.{needs}
 use borrow.Author.Tests.{eq-eqb, ne-eqb}

@@ -1,4 +1,4 @@
--- `emergency::scope`: after s turns the set has the labels that some state below s opens.
+-- `scope::scope`: after s turns the set has the labels that some state below s opens.
 use Prim.Native.Nat.{ℕ, _^_, _-_, _<_, _≤_}
 use mathlib.Core.Path.{_≡_, _∙_}
 use mathlib.Core.Bool.{_&&_}

@@ -25,21 +25,6 @@ alone Refusal.ListFull k = refl
 alone Refusal.BreaksBaseline k = refl
 alone (Refusal.Conflicts n) k = absurd (miss (0 ∷ 1 ∷ 2 ∷ 3 ∷ 4 ∷ 5 ∷ []) 6 tt k)
 
-refusal-of-requires : tie.Need-refusal-of-requires
-refusal-of-requires c κs = search needs
-
-enum-known-why : tie.Need-enum-known-why
-enum-known-why c = search needs
-
-cast-numbered : tie.Need-cast-numbered
-cast-numbered c = search needs
-
-numbered-requires : tie.Need-numbered-requires
-numbered-requires c κs = search needs
-
-numbered-requires-2 : tie.Need-numbered-requires-2
-numbered-requires-2 c κs = search needs
-
 returns : tie.Need-returns
 returns c =
     let known = c .before .before .why .given .1 in
@@ -54,10 +39,8 @@ pub directive-line-spec : {M : Type 1} → statement M
 directive-line-spec =
     tie.close
     (tie.spec
-    refusal-of-requires
-    enum-known-why
-    cast-numbered
-    numbered-requires
-    numbered-requires-2
+    (λ c κs. search needs)
+    (λ c. search needs) (λ c. search needs) (λ c κs. search needs)
+    (λ c κs. search needs)
     returns
     returns-2)

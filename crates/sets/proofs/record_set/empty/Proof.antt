@@ -1,4 +1,4 @@
--- `words::none`: 0 has no bit, so neither word has a number in it.
+-- `record_set::empty`: 0 has no bit, so neither word has a number in it.
 use Rattle.sets.proofs.WordLaws.{contains-none}
 use Rattle.sets.proofs.record_set.empty.Statement.{statement}
 use Rattle.sets.proofs.record_set.empty.Tie as tie

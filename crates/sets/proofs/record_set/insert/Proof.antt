@@ -1,4 +1,4 @@
--- `words::with` sets one bit of the word that the number falls in; a number past 127 is none of the 128.
+-- `record_set::insert` sets one bit of the word that the number falls in; a number past 127 is none of the 128.
 use native.Mathlib.Omega.{arith}
 use borrow.Author.Needs.{needs}
 use borrow.Author.Tests.{ne-eqb}

@@ -1,4 +1,4 @@
--- `words::with_where` gives the set back where the test fails, and otherwise adds the number.
+-- `record_set::insert_where` gives the set back where the test fails, and otherwise adds the number.
 use borrow.Author.Needs.{needs}
 use borrow.Author.Tests.{not-true, not-false}
 use Rattle.sets.proofs.record_set.insert_where.Statement.{statement}

@@ -1,4 +1,4 @@
--- `words::overlap`: two sets share a number where their low words or their high words share a bit.
+-- `record_set::intersects`: two sets share a number where their low words or their high words share a bit.
 use borrow.Author.Needs.{needs}
 use borrow.Author.Tests.{eq-eqb, ne-eqb}
 use Rattle.sets.proofs.WordLaws.{overlap-words}

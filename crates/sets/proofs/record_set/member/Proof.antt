@@ -1,4 +1,4 @@
--- `words::member` reads the bit of the word that the number falls in; from 128 on no number is in a set.
+-- `record_set::member` reads the bit of the word that the number falls in; from 128 on no number is in a set.
 use mathlib.Core.Path.{sym}
 use borrow.Author.Needs.{needs}
 use Rattle.sets.proofs.WordLaws.{contains-low, contains-high, contains-past}

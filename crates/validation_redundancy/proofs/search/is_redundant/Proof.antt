@@ -1,4 +1,4 @@
--- `validation_redundancy::is_redundant` searches the tables, and so finds what is meant.
+-- `search::is_redundant` searches the tables, and so finds what is meant.
 use Prim.Native.Nat.{_≤_}
 use mathlib.Core.Path.{_≡_, sym, ap, _∙_}
 use mathlib.Core.List.{List}

@@ -1,4 +1,4 @@
--- `validation_redundancy::known` makes the two tests in turn.
+-- `search::known` makes the two tests in turn.
 use borrow.Author.Tests.{eq-eqb, ne-eqb}
 use Rattle.validation_redundancy.proofs.search.known.Statement.{statement}
 use Rattle.validation_redundancy.proofs.search.known.Tie as tie

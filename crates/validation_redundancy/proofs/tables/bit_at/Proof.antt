@@ -1,4 +1,4 @@
--- `validation_redundancy::bit_at`: the shift does not leave the 32 bits.
+-- `tables::bit_at`: the shift does not leave the 32 bits.
 use native.Mathlib.Nat.{zero-mul}
 use native.Mathlib.Omega.{arith}
 use borrow.Author.Needs.{needs}

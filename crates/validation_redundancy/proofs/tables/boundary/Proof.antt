@@ -1,4 +1,4 @@
--- `validation_redundancy::boundary`: the ends stand one place on.
+-- `tables::boundary`: the ends stand one place on.
 use borrow.Author.Needs.{needs}
 use Rattle.validation_redundancy.proofs.MaskLaws.{getD-after}
 use Rattle.validation_redundancy.proofs.tables.boundary.Statement.{statement}

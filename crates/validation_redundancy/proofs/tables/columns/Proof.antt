@@ -1,4 +1,4 @@
--- `validation_redundancy::columns` writes the columns of the set in turn.
+-- `tables::columns` writes the columns of the set in turn.
 use Prim.Native.Nat.{_≤_, _-_}
 use mathlib.Core.Path.{_∙_}
 use mathlib.Core.Logic.{⊎-elim}

@@ -1,4 +1,4 @@
--- `validation_redundancy::minutes_of` walks over the boundary minutes: what holds of the masks so far holds at those so far that the draft spans.
+-- `tables::minutes_of` walks over the boundary minutes: what holds of the masks so far holds at those so far that the draft spans.
 use Prim.Native.Nat.{_+_, _-_}
 use mathlib.Core.Path.{sym, _∙_}
 use mathlib.Core.Logic.{⊎-elim}

@@ -1,4 +1,4 @@
--- `validation_redundancy::record_column` reads the column of the word that the record falls in.
+-- `tables::record_column` reads the column of the word that the record falls in.
 use borrow.Author.Needs.{needs}
 use borrow.Author.Tests.{lt-ltb, le-ltb}
 use Rattle.validation_redundancy.proofs.tables.record_column.Statement.{statement}

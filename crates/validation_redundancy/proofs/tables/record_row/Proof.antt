@@ -1,4 +1,4 @@
--- `validation_redundancy::record_row`: no record counts of a directive that does not count.
+-- `tables::record_row`: no record counts of a directive that does not count.
 use mathlib.Core.Path.{ap, _∙_}
 use mathlib.Core.Bool.{_&&_}
 use borrow.Author.Needs.{needs}

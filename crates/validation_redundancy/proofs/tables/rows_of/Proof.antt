@@ -1,4 +1,4 @@
--- `validation_redundancy::rows_of` writes the rows in turn: after i turns they are the rows of the first i directives.
+-- `tables::rows_of` writes the rows in turn: after i turns they are the rows of the first i directives.
 use Prim.Native.Nat.{_<_, _≤_, _-_}
 use mathlib.Core.Path.{_≡_, ap, _∙_}
 use mathlib.Core.List.{List}

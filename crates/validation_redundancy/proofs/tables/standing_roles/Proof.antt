@@ -1,4 +1,4 @@
--- `validation_redundancy::standing_roles`: a person stands for no other person, and for no role.
+-- `tables::standing_roles`: a person stands for no other person, and for no role.
 use Prim.Native.Nat.{_≤_}
 use mathlib.Core.Path.{_∙_}
 use mathlib.Core.Bool.{and-true, and-false}
@@ -6,7 +6,8 @@ use native.Mathlib.Omega.{arith}
 use borrow.Author.Tests.{eq-eqb, ne-eqb}
 use borrow.Author.Needs.{needs}
 use lib.ListN.{length, take, length-take}
-use Rattle.validation_redundancy.proofs.MaskLaws.{set-same, set-none, stands-role}
+use Rattle.sets.proofs.SetLaws.{set-same, set-none}
+use Rattle.validation_redundancy.proofs.MaskLaws.{stands-role}
 use Rattle.validation_redundancy.proofs.tables.standing_roles.Statement.{statement}
 use Rattle.validation_redundancy.proofs.tables.standing_roles.Tie as tie
 

@@ -1,0 +1,73 @@
+-- Laws of a text's digits and of the number that they write, a place at a time.
+use Prim.Native.Nat.{ℕ, _+_, _*_, _≤_, _<_}
+use mathlib.Core.Path.{_≡_}
+use mathlib.Core.Logic.{⊎-elim}
+use mathlib.Core.Bool.{true, false, _&&_, and-false}
+use mathlib.Core.List.{List}
+use native.Mathlib.Numerals.{add-one}
+use native.Mathlib.Omega.{arith}
+use borrow.Author.Tests.{leb-true, lt-ltb, le-ltb, le-leb, lt-leb}
+use lib.Dec.{leb}
+use lib.ListN.{length, drop, getD}
+use lib.Seq.{drop-cons, drop-length}
+use Rattle.sets.specs.Quantifiers.{allIn}
+use Rattle.sets.proofs.Quantifiers.{and-both, either-way}
+use Rattle.arguments.specs.Decimal.{isDigit, digitOf, valueFrom, value, isDecimal, mostDigits, numberUpTo, Bounded}
+use Rattle.arguments.specs.declared.Parsed.the-variants.{Number, NotANumber}
+
+pub digit-bounds : (b : ℕ) → isDigit b ≡ true → (48 ≤ b) × (b ≤ 57)
+digit-bounds b e =
+    let (low, high) = and-both (leb 48 b) (leb b 57) e in
+    (leb-true 48 b low, leb-true b 57 high)
+
+-- what is left of a text from place i on: the byte there, and what is left after it
+module _ (s : List ℕ) (i : ℕ) (h : i < length s) where
+  pub all-here : allIn isDigit (drop i s) ≡ isDigit (getD s i 0) && allIn isDigit (drop (i + 1) s)
+  unfolding allIn
+  all-here = rw (drop-cons s i 0 h, add-one)
+
+  pub value-here : (a : ℕ) → valueFrom a (drop i s) ≡ valueFrom (a * 10 + digitOf (getD s i 0)) (drop (i + 1) s)
+  unfolding valueFrom
+  value-here a = rw (drop-cons s i 0 h, add-one)
+
+-- nothing is left past the last place
+module _ (s : List ℕ) (i : ℕ) (e : i ≡ length s) where
+  pub all-end : allIn isDigit (drop i s) ≡ true
+  unfolding allIn
+  all-end = rw (e, drop-length)
+
+  pub value-end : (a : ℕ) → valueFrom a (drop i s) ≡ a
+  unfolding valueFrom
+  value-end a = rw (e, drop-length)
+
+-- what is refused, and what is a number
+module _ (most : ℕ) (s : List ℕ) where
+  pub empty-refused : length s ≡ 0 → NotANumber ≡ numberUpTo most s
+  unfolding numberUpTo
+  empty-refused h = rw (le-ltb 0 (length s) (omega arith))
+
+  pub long-refused : mostDigits < length s → NotANumber ≡ numberUpTo most s
+  unfolding numberUpTo
+  long-refused h = rw (lt-leb (length s) mostDigits h, and-false)
+
+  pub other-refused : allIn isDigit s ≡ false → NotANumber ≡ numberUpTo most s
+  unfolding numberUpTo
+  other-refused e = rw (e, and-false)
+
+  pub above-refused : most < value s → NotANumber ≡ numberUpTo most s
+  unfolding numberUpTo
+  above-refused h = rw (lt-leb (value s) most h, and-false)
+
+  pub number-taken :
+      0 < length s → length s ≤ mostDigits → allIn isDigit s ≡ true → value s ≤ most → Number (value s) ≡ numberUpTo most s
+  unfolding numberUpTo
+  number-taken some few e h =
+      rw (lt-ltb 0 (length s) some, e, le-leb (length s) mostDigits few, le-leb (value s) most h)
+
+  pub bounded : Bounded most (numberUpTo most s)
+  unfolding numberUpTo
+  bounded =
+      ⊎-elim
+      (λ e. rw e (leb-true (value s) most (and-both (isDecimal s && leb (length s) mostDigits) _ e .1)))
+      (λ e. rw e tt)
+      (either-way (isDecimal s && leb (length s) mostDigits && leb (value s) most))

@@ -1,0 +1,4 @@
+pub mod Arguments
+pub mod Words
+pub mod Table
+pub mod Promises
