@@ -2,7 +2,6 @@
 //! a set-up, and the same with the operation a number of times. What the
 //! second costs more, divided by that number, is the cost of one operation.
 
-use std::fs;
 use std::io;
 use std::path::Path;
 
@@ -11,6 +10,7 @@ use crate::bytes::field;
 use crate::card;
 use crate::cardcheck::cardcheck;
 use crate::directive::{Effect, Fields, ALL_PURPOSES};
+use crate::files;
 use crate::generate::InputKind;
 use crate::ledger::{Basis, Decision, Dropped, MAX_ACTIVE, MAX_TOKENS};
 use crate::random::Random;
@@ -116,7 +116,7 @@ impl Measure {
     pub fn write_into(&self, directory: &Path) -> io::Result<()> {
         let write = |part: &str, bytes: &[u8]| {
             let name = format!("{}.{part}.{}", self.name, self.extension());
-            fs::write(directory.join(name), bytes)
+            files::store(&directory.join(name), bytes)
         };
         write("base", &self.base)?;
         write("with", &self.with)?;

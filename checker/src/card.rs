@@ -11,84 +11,130 @@ pub const ROLES: u8 = 0x02;
 pub const RECORD: u8 = 0x03;
 pub const DIRECTIVE: u8 = 0x04;
 
-#[derive(Clone, Copy)]
-enum Edition {
+#[derive(Clone, Copy, Debug, PartialEq, Eq)]
+pub enum Edition {
     One,
     Two,
 }
 
+impl Edition {
+    pub fn number(self) -> u8 {
+        match self {
+            Edition::One => 1,
+            Edition::Two => 2,
+        }
+    }
+
+    /// The length of a directive field.
+    pub fn directive_length(self) -> usize {
+        match self {
+            Edition::One => LENGTH_EDITION_1,
+            Edition::Two => LENGTH,
+        }
+    }
+}
+
+#[derive(Clone, Copy, Debug, PartialEq, Eq)]
+pub struct Head {
+    pub edition: Edition,
+    pub patient: u16,
+    pub clock: u32,
+}
+
 /// How far a card has been read. A ledger with a directive is past the
 /// records.
-enum Stage {
+#[derive(Clone, Debug, PartialEq, Eq)]
+pub enum Stage {
     Start,
-    Head {
-        edition: Edition,
-        patient: u16,
-        clock: u32,
-    },
-    Register {
-        edition: Edition,
-        ledger: Ledger,
-    },
+    Head(Head),
+    Register { edition: Edition, ledger: Ledger },
+}
+
+/// The first "no": the offset of its field, or of the card's end.
+#[derive(Clone, Copy, Debug, PartialEq, Eq)]
+pub struct Stop {
+    pub offset: usize,
+    pub refusal: Refusal,
+}
+
+/// A card as far as it can be read.
+#[derive(Clone, Debug, PartialEq, Eq)]
+pub struct Reading {
+    pub stage: Stage,
+    /// Nothing if the card is accepted.
+    pub stop: Option<Stop>,
+}
+
+impl Reading {
+    /// Reads a card of any length.
+    pub fn of(card: &[u8]) -> Reading {
+        let mut stage = Stage::Start;
+        let mut bytes = Bytes::new(card);
+        while !bytes.is_empty() {
+            let offset = card.len().saturating_sub(bytes.left());
+            let field = bytes.field().ok_or(Refusal::FieldNotWhole);
+            let read = field.and_then(|(tag, value)| stage.read_field(tag, value));
+            if let Err(refusal) = read {
+                let stop = Some(Stop { offset, refusal });
+                return Reading { stage, stop };
+            }
+        }
+        let stop = (!stage.is_complete()).then_some(Stop {
+            offset: card.len(),
+            refusal: Refusal::CardIncomplete,
+        });
+        Reading { stage, stop }
+    }
 }
 
 /// Reads a card of any length. On a refusal the ledger is the empty one.
 pub fn read(card: &[u8]) -> Result<Ledger, Refusal> {
-    let mut stage = Stage::Start;
-    let mut bytes = Bytes::new(card);
-    while !bytes.is_empty() {
-        let (tag, value) = bytes.field().ok_or(Refusal::FieldNotWhole)?;
-        stage = read_field(stage, tag, value)?;
-    }
-    match stage {
-        Stage::Register { ledger, .. } if !ledger.register().records().is_empty() => Ok(ledger),
-        _ => Err(Refusal::CardIncomplete),
+    let Reading { stage, stop } = Reading::of(card);
+    match (stage, stop) {
+        (_, Some(stop)) => Err(stop.refusal),
+        (Stage::Register { ledger, .. }, None) => Ok(ledger),
+        (Stage::Start | Stage::Head(_), None) => Err(Refusal::CardIncomplete),
     }
 }
 
-/// Questions 2 to 4 and 7 to 13 for one field. "Any other tag has no place."
-fn read_field(stage: Stage, tag: u8, value: &[u8]) -> Result<Stage, Refusal> {
-    match (stage, tag) {
-        (Stage::Start, HEAD) => read_head(value),
-        (
-            Stage::Head {
-                edition,
-                patient,
-                clock,
-            },
-            ROLES,
-        ) => {
-            let register = read_roles(value)?;
-            let ledger = Ledger::new(patient, clock, register);
-            Ok(Stage::Register { edition, ledger })
+impl Stage {
+    /// "Were head, roles and a record read?"
+    fn is_complete(&self) -> bool {
+        match self {
+            Stage::Start | Stage::Head(_) => false,
+            Stage::Register { ledger, .. } => !ledger.register().records().is_empty(),
         }
-        (
-            Stage::Register {
-                edition,
-                mut ledger,
-            },
-            RECORD,
-        ) if ledger.active().is_empty() => {
-            read_record(ledger.register_mut(), value)?;
-            Ok(Stage::Register { edition, ledger })
+    }
+
+    /// Questions 2 to 4 and 7 to 13 for one field. "Any other tag has no
+    /// place." A refused field changes nothing.
+    fn read_field(&mut self, tag: u8, value: &[u8]) -> Result<(), Refusal> {
+        match (&mut *self, tag) {
+            (Stage::Start, HEAD) => *self = Stage::Head(read_head(value)?),
+            (Stage::Head(head), ROLES) => {
+                let register = read_roles(value)?;
+                *self = Stage::Register {
+                    edition: head.edition,
+                    ledger: Ledger::new(head.patient, head.clock, register),
+                };
+            }
+            (Stage::Register { ledger, .. }, RECORD) if ledger.active().is_empty() => {
+                read_record(ledger.register_mut(), value)?;
+            }
+            (Stage::Register { edition, ledger }, DIRECTIVE)
+                if !ledger.register().records().is_empty() =>
+            {
+                ledger.read_directive(&directive_fields(*edition, value)?)?;
+            }
+            _ => return Err(Refusal::FieldPlaceOrLength),
         }
-        (
-            Stage::Register {
-                edition,
-                mut ledger,
-            },
-            DIRECTIVE,
-        ) if !ledger.register().records().is_empty() => {
-            ledger.read_directive(&directive_fields(edition, value)?)?;
-            Ok(Stage::Register { edition, ledger })
-        }
-        _ => Err(Refusal::FieldPlaceOrLength),
+        Ok(())
     }
 }
 
 /// "0x01, first, once: edition (1 or 2), patient 2, minute 4 (sets the
 /// clock)."
-fn read_head(value: &[u8]) -> Result<Stage, Refusal> {
+fn read_head(value: &[u8]) -> Result<Head, Refusal> {
     let head = <[u8; 7]>::try_from(value).map_err(|_| Refusal::FieldPlaceOrLength)?;
     let [edition, p1, p0, m3, m2, m1, m0] = head;
     let edition = match edition {
@@ -96,7 +142,7 @@ fn read_head(value: &[u8]) -> Result<Stage, Refusal> {
         2 => Edition::Two,
         _ => return Err(Refusal::FieldRange),
     };
-    Ok(Stage::Head {
+    Ok(Head {
         edition,
         patient: u16::from_be_bytes([p1, p0]),
         clock: u32::from_be_bytes([m3, m2, m1, m0]),
@@ -125,7 +171,7 @@ fn read_record(register: &mut Register, value: &[u8]) -> Result<(), Refusal> {
 
 /// "0x04, after the records (at least one), one a directive"; 25 bytes, and
 /// in edition 1 23.
-fn directive_fields(edition: Edition, value: &[u8]) -> Result<Fields, Refusal> {
+pub fn directive_fields(edition: Edition, value: &[u8]) -> Result<Fields, Refusal> {
     let fields = match edition {
         Edition::One => <&[u8; LENGTH_EDITION_1]>::try_from(value).map(Fields::decode_edition_1),
         Edition::Two => <&[u8; LENGTH]>::try_from(value).map(Fields::decode),

@@ -5,19 +5,35 @@ use std::fmt;
 
 use crate::answer::Answer;
 use crate::directive::Effect;
+use crate::ledger::Decision;
 use crate::refusal::{Refusal, LAST_QUESTION};
 
 /// The questions that a card can miss; a call can miss those from 6 on.
 const CARD_QUESTIONS: [u8; 12] = [1, 2, 3, 4, 5, 7, 8, 9, 10, 11, 12, 13];
 const FIRST_CALL_QUESTION: u8 = 6;
 
-const BASES: [u8; 4] = [1, 2, 3, 4];
+pub(crate) const BASES: [u8; 4] = [1, 2, 3, 4];
 /// Bases 1 and 2 never deny.
-const DENYING_BASES: [u8; 2] = [3, 4];
+pub(crate) const DENYING_BASES: [u8; 2] = [3, 4];
 
+const CARD: &str = "card";
 const CALLS: [&str; 8] = [
-    "card", "commit", "revoke", "advance", "issue", "decide", "brief", "write",
+    CARD, "commit", "revoke", "advance", "issue", "decide", "brief", "write",
 ];
+
+/// Which inputs are asked for.
+#[derive(Clone, Copy, Debug, PartialEq, Eq)]
+pub struct Asked {
+    pub cards: bool,
+    pub replays: bool,
+}
+
+impl Asked {
+    pub const ALL: Asked = Asked {
+        cards: true,
+        replays: true,
+    };
+}
 
 /// What is counted.
 #[derive(Clone, Copy, Debug, PartialEq, Eq, PartialOrd, Ord)]
@@ -34,6 +50,41 @@ pub enum Kind {
     Refused(&'static str),
     /// A replay that breaks its format.
     Malformed,
+}
+
+impl Kind {
+    /// What tells most of an answer: the question that refuses, the basis of
+    /// a decision, or the call.
+    pub fn of(answer: &Answer) -> Kind {
+        match answer {
+            Answer::Card(Ok(_)) => Kind::Accepted(CARD),
+            Answer::Card(Err(refusal)) => Kind::CardRefusal(refusal.number()),
+            Answer::Commit(answer) => Kind::of_call("commit", answer),
+            Answer::Revoke(answer) => Kind::of_call("revoke", answer),
+            Answer::Advance(answer) => Kind::of_call("advance", answer),
+            Answer::Issue(answer) => Kind::of_call("issue", answer),
+            Answer::Decide(Ok(decision)) => Kind::of_decision(decision),
+            Answer::Decide(answer) => Kind::of_call("decide", answer),
+            Answer::Brief(answer) => Kind::of_call("brief", answer),
+            Answer::Write(answer) => Kind::of_call("write", answer),
+            Answer::Malformed => Kind::Malformed,
+        }
+    }
+
+    fn of_call<T>(call: &'static str, answer: &Result<T, Refusal>) -> Kind {
+        match answer {
+            Ok(_) => Kind::Accepted(call),
+            Err(refusal) => Kind::CallRefusal(refusal.number()),
+        }
+    }
+
+    fn of_decision(decision: &Decision) -> Kind {
+        let basis = decision.basis.number();
+        match decision.effect {
+            Effect::Permit => Kind::Permit(basis),
+            Effect::Deny => Kind::Deny(basis),
+        }
+    }
 }
 
 impl fmt::Display for Kind {
@@ -77,9 +128,9 @@ impl Counts {
 
     pub fn add(&mut self, answer: &Answer) {
         match answer {
-            Answer::Card(Ok(_)) => self.count(Kind::Accepted("card")),
+            Answer::Card(Ok(_)) => self.count(Kind::Accepted(CARD)),
             Answer::Card(Err(refusal)) => {
-                self.count(Kind::Refused("card"));
+                self.count(Kind::Refused(CARD));
                 self.count(Kind::CardRefusal(refusal.number()));
             }
             Answer::Commit(answer) => self.count_call("commit", answer),
@@ -89,11 +140,7 @@ impl Counts {
             Answer::Decide(answer) => {
                 self.count_call("decide", answer);
                 if let Ok(decision) = answer {
-                    let basis = decision.basis.number();
-                    self.count(match decision.effect {
-                        Effect::Permit => Kind::Permit(basis),
-                        Effect::Deny => Kind::Deny(basis),
-                    });
+                    self.count(Kind::of_decision(decision));
                 }
             }
             Answer::Brief(answer) => self.count_call("brief", answer),
@@ -102,26 +149,37 @@ impl Counts {
         }
     }
 
-    /// Every refusal that a card or a call can get, and every basis with
-    /// every effect that it can have.
-    pub fn wanted() -> impl Iterator<Item = Kind> {
+    /// Of the inputs asked for, every refusal that a card or a call can get,
+    /// and every basis with every effect that it can have.
+    pub fn wanted(asked: Asked) -> impl Iterator<Item = Kind> {
         let cards = CARD_QUESTIONS.into_iter().map(Kind::CardRefusal);
         let calls = (FIRST_CALL_QUESTION..=LAST_QUESTION).map(Kind::CallRefusal);
         let permits = BASES.into_iter().map(Kind::Permit);
         let denies = DENYING_BASES.into_iter().map(Kind::Deny);
-        cards.chain(calls).chain(permits).chain(denies)
+        let replays = calls.chain(permits).chain(denies);
+        let cards = cards.filter(move |_| asked.cards);
+        cards.chain(replays.filter(move |_| asked.replays))
     }
 
     /// The wanted ones that did not occur.
-    pub fn missing(&self) -> Vec<Kind> {
-        Counts::wanted()
+    pub fn missing(&self, asked: Asked) -> Vec<Kind> {
+        Counts::wanted(asked)
             .filter(|kind| self.of(*kind) == 0)
             .collect()
     }
 
+    /// Whether a call was made, or a replay is malformed.
+    fn has_calls(&self) -> bool {
+        self.by_kind.keys().any(|kind| match kind {
+            Kind::Accepted(call) | Kind::Refused(call) => *call != CARD,
+            Kind::CardRefusal(_) => false,
+            Kind::CallRefusal(_) | Kind::Permit(_) | Kind::Deny(_) | Kind::Malformed => true,
+        })
+    }
+
     /// The count, or a dash where it can only be 0.
     fn cell(&self, kind: Kind) -> String {
-        if Counts::wanted().any(|wanted| wanted == kind) {
+        if Counts::wanted(Asked::ALL).any(|wanted| wanted == kind) {
             self.of(kind).to_string()
         } else {
             "-".to_string()
@@ -129,27 +187,40 @@ impl Counts {
     }
 }
 
-/// The table.
+/// The table, for cards alone where no call was made.
 impl fmt::Display for Counts {
     fn fmt(&self, f: &mut fmt::Formatter<'_>) -> fmt::Result {
-        writeln!(f, "{:>8} {:>10} {:>10}", "refusal", "of cards", "of calls")?;
+        let calls = self.has_calls();
+        let of_calls = if calls { "of calls" } else { "" };
+        row(f, ["refusal", "of cards", of_calls])?;
         for number in 1..=LAST_QUESTION {
             let cards = self.cell(Kind::CardRefusal(number));
-            let calls = self.cell(Kind::CallRefusal(number));
-            writeln!(f, "{number:>8} {cards:>10} {calls:>10}")?;
+            let of_calls = self.cell(Kind::CallRefusal(number));
+            let of_calls = if calls { &of_calls } else { "" };
+            row(f, [&number.to_string(), &cards, of_calls])?;
         }
-        writeln!(f, "{:>8} {:>10} {:>10}", "basis", "permit", "deny")?;
-        for basis in BASES {
-            let permits = self.cell(Kind::Permit(basis));
-            let denies = self.cell(Kind::Deny(basis));
-            writeln!(f, "{basis:>8} {permits:>10} {denies:>10}")?;
+        if calls {
+            row(f, ["basis", "permit", "deny"])?;
+            for basis in BASES {
+                let permits = self.cell(Kind::Permit(basis));
+                let denies = self.cell(Kind::Deny(basis));
+                row(f, [&basis.to_string(), &permits, &denies])?;
+            }
         }
-        writeln!(f, "{:>8} {:>10} {:>10}", "call", "accepted", "refused")?;
-        for call in CALLS {
-            let accepted = self.of(Kind::Accepted(call));
-            let refused = self.of(Kind::Refused(call));
-            writeln!(f, "{call:>8} {accepted:>10} {refused:>10}")?;
+        row(f, ["call", "accepted", "refused"])?;
+        for call in CALLS.into_iter().filter(|call| calls || *call == CARD) {
+            let accepted = self.of(Kind::Accepted(call)).to_string();
+            let refused = self.of(Kind::Refused(call)).to_string();
+            row(f, [call, &accepted, &refused])?;
         }
-        writeln!(f, "malformed replays {}", self.of(Kind::Malformed))
+        if calls {
+            writeln!(f, "malformed replays {}", self.of(Kind::Malformed))?;
+        }
+        Ok(())
     }
+}
+
+pub(crate) fn row(f: &mut fmt::Formatter<'_>, [what, one, other]: [&str; 3]) -> fmt::Result {
+    let row = format!("{what:>8} {one:>10} {other:>10}");
+    writeln!(f, "{}", row.trim_end())
 }

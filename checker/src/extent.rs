@@ -1,11 +1,10 @@
 //! How many inputs go in parts, how many cards the cut of `cardcheck` decides,
 //! and how long the replays are.
 
-use std::fmt;
-
 use crate::bytes::Bytes;
 use crate::card;
 use crate::cardcheck::CARD_LIMIT;
+use crate::counts::Asked;
 use crate::generate::{Input, InputKind, LONGEST, MANY_CALLS};
 use crate::replay::Call;
 
@@ -72,20 +71,39 @@ impl Extent {
         self.calls = self.calls.max(calls);
     }
 
-    /// What is measured, how much it is, and the least that is wanted.
-    fn rows(&self) -> [(&'static str, usize, usize); 7] {
+    /// Of which inputs, what is measured, how much it is, and the least that
+    /// is wanted.
+    fn rows(&self) -> [(InputKind, &'static str, usize, usize); 7] {
+        let (card, replay) = (InputKind::Card, InputKind::Replay);
         [
-            ("cards in parts", self.cards_in_parts, 1),
-            ("replays in parts", self.replays_in_parts, 1),
-            ("cards that byte 65535 decides", self.without_the_last, 1),
-            ("cards that byte 65536 would decide", self.with_the_next, 1),
-            ("calls of the longest replay", self.calls, MANY_CALLS),
+            (card, "cards in parts", self.cards_in_parts, 1),
+            (replay, "replays in parts", self.replays_in_parts, 1),
             (
+                card,
+                "cards that byte 65535 decides",
+                self.without_the_last,
+                1,
+            ),
+            (
+                card,
+                "cards that byte 65536 would decide",
+                self.with_the_next,
+                1,
+            ),
+            (
+                replay,
+                "calls of the longest replay",
+                self.calls,
+                MANY_CALLS,
+            ),
+            (
+                replay,
                 "bytes of the longest card before a call",
                 self.card,
                 LONGEST,
             ),
             (
+                replay,
                 "bytes of the longest value before a call",
                 self.value,
                 LONGEST,
@@ -93,25 +111,34 @@ impl Extent {
         ]
     }
 
-    /// Of what there is too little.
-    pub fn missing(&self) -> Vec<String> {
+    /// The rows of the inputs asked for.
+    fn asked_rows(
+        &self,
+        asked: Asked,
+    ) -> impl Iterator<Item = (InputKind, &'static str, usize, usize)> {
         let rows = self.rows().into_iter();
-        rows.filter(|(_, measured, least)| measured < least)
-            .map(|(what, measured, least)| format!("{what} ({measured} of {least})"))
+        rows.filter(move |(kind, ..)| match kind {
+            InputKind::Card => asked.cards,
+            InputKind::Replay => asked.replays,
+        })
+    }
+
+    /// The lines below the table of answers.
+    pub fn table(&self, asked: Asked) -> String {
+        let rows = self.asked_rows(asked);
+        rows.map(|(_, what, measured, _)| format!("{what} {measured}\n"))
+            .collect()
+    }
+
+    /// Of what there is too little among the inputs asked for.
+    pub fn missing(&self, asked: Asked) -> Vec<String> {
+        let rows = self.asked_rows(asked);
+        rows.filter(|(_, _, measured, least)| measured < least)
+            .map(|(_, what, measured, least)| format!("{what} ({measured} of {least})"))
             .collect()
     }
 }
 
 fn count(number: &mut usize, one_more: bool) {
     *number = number.saturating_add(usize::from(one_more));
-}
-
-/// The lines below the table of answers.
-impl fmt::Display for Extent {
-    fn fmt(&self, f: &mut fmt::Formatter<'_>) -> fmt::Result {
-        for (what, measured, _) in self.rows() {
-            writeln!(f, "{what} {measured}")?;
-        }
-        Ok(())
-    }
 }

@@ -20,7 +20,7 @@ const SCOPES: [u16; 8] = [
 ];
 
 /// "The token's scope is the union over its states of this table."
-fn scope(states: u8) -> u16 {
+pub fn scope(states: u8) -> u16 {
     (0u8..)
         .zip(SCOPES)
         .filter(|(state, _)| has_bit(u16::from(states), *state))

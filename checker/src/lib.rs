@@ -27,12 +27,14 @@ pub mod card;
 
 pub mod refusal;
 
-// The programs: cards, replays, the comparison on generated ones, and the
-// inputs of the benchmark.
+// The programs: cards, replays and tables of access, the comparison on
+// generated inputs, the conformance cases, and the inputs of the benchmark.
 
 pub mod cardcheck;
 
 pub mod replay;
+
+pub mod access;
 
 pub mod answer;
 
@@ -44,12 +46,39 @@ pub mod parts;
 
 pub mod counts;
 
+pub mod access_counts;
+
 pub mod extent;
+
+pub mod conformance;
 
 pub mod bench;
 
+// Words instead of numbers: a card shown, the lines of a card or a replay
+// explained.
+
+pub mod show;
+
+pub mod explain;
+
+pub mod reason;
+
+pub mod witness;
+
+pub mod describe;
+
+pub mod kind;
+
+// Cards and replays as people write them.
+
+pub mod text_form;
+
 // What they share.
 
+pub mod files;
+
 pub mod bytes;
+
+pub mod layout;
 
 pub mod random;

@@ -6,13 +6,13 @@ use crate::card;
 use crate::ledger::Ledger;
 use crate::request::Query;
 
-const COMMIT: u8 = 0x10;
-const REVOKE: u8 = 0x11;
-const ADVANCE: u8 = 0x12;
-const ISSUE: u8 = 0x13;
-const DECIDE: u8 = 0x14;
-const BRIEF: u8 = 0x15;
-const WRITE: u8 = 0x16;
+pub const COMMIT: u8 = 0x10;
+pub const REVOKE: u8 = 0x11;
+pub const ADVANCE: u8 = 0x12;
+pub const ISSUE: u8 = 0x13;
+pub const DECIDE: u8 = 0x14;
+pub const BRIEF: u8 = 0x15;
+pub const WRITE: u8 = 0x16;
 
 /// A call with its arguments.
 #[derive(Clone, Debug, PartialEq, Eq)]
@@ -151,8 +151,7 @@ pub fn encode(card: &[u8], calls: &[Call]) -> Vec<u8> {
     bytes
 }
 
-/// The answers of a replay, one after another. `ledger` is there between the
-/// card and the end.
+/// The answers of a replay, one after another.
 pub struct Replay<'a> {
     bytes: Bytes<'a>,
     stage: Stage,
@@ -169,6 +168,19 @@ impl<'a> Replay<'a> {
         Replay {
             bytes: Bytes::new(input),
             stage: Stage::Card,
+        }
+    }
+
+    /// The bytes that are still to be read.
+    pub fn bytes(&self) -> Bytes<'a> {
+        self.bytes
+    }
+
+    /// The ledger between the card and the end.
+    pub fn ledger(&self) -> Option<&Ledger> {
+        match &self.stage {
+            Stage::Calls(ledger) => Some(ledger),
+            Stage::Card | Stage::Ended => None,
         }
     }
 

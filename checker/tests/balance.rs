@@ -13,7 +13,7 @@ use checker::request::Query;
 
 use crate::definition::Model;
 use crate::small_world;
-use crate::support::Card;
+use crate::support::{Card, Readable};
 
 /// Counts over a list of calls.
 #[derive(Default)]

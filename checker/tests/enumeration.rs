@@ -8,6 +8,7 @@ use checker::validation::{breaks_baseline, lowest_conflict, redundant};
 
 use crate::definition::Model;
 use crate::small_world;
+use crate::support::Readable;
 
 #[test]
 fn validation_agrees_with_the_definitions() {

@@ -5,7 +5,7 @@ use std::collections::BTreeSet;
 use checker::answer::Answer;
 use checker::card;
 use checker::compare::answers;
-use checker::counts::{Counts, Kind};
+use checker::counts::{Asked, Counts, Kind};
 use checker::generate::{inputs, Input, InputKind};
 use checker::refusal::Refusal;
 
@@ -46,8 +46,8 @@ fn every_refusal_and_basis_occurs_often() {
     for seed in [1, 2, 3] {
         let short = inputs(seed, 2000, 2000).filter(|input| input.bytes.len() < 60_000);
         let counts = counts(short);
-        assert_eq!(counts.missing(), []);
-        for kind in Counts::wanted() {
+        assert_eq!(counts.missing(Asked::ALL), []);
+        for kind in Counts::wanted(Asked::ALL) {
             assert!(
                 counts.of(kind) >= 15,
                 "seed {seed}, {kind}: {}",
@@ -68,12 +68,12 @@ fn every_refusal_and_basis_occurs_often() {
 #[test]
 fn missing_kinds_are_named() {
     let none = Counts::default();
-    let wanted: Vec<Kind> = Counts::wanted().collect();
-    assert_eq!(none.missing(), wanted);
+    let wanted: Vec<Kind> = Counts::wanted(Asked::ALL).collect();
+    assert_eq!(none.missing(Asked::ALL), wanted);
     // 12 refusals of cards, 19 of calls, 4 bases that permit and 2 that deny.
     assert_eq!(wanted.len(), 12 + 19 + 4 + 2);
     let few = counts(inputs(1, 20, 0));
-    let missing = few.missing();
+    let missing = few.missing(Asked::ALL);
     assert!(missing.contains(&Kind::CallRefusal(6)));
     assert!(missing.len() < wanted.len());
 }

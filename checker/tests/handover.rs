@@ -1,5 +1,6 @@
 //! Which inputs go in parts, and what is measured of the inputs.
 
+use checker::counts::Asked;
 use checker::extent::Extent;
 use checker::generate::{inputs, Input, InputKind};
 use checker::parts::parts;
@@ -97,16 +98,16 @@ fn extent(inputs: impl Iterator<Item = Input>) -> Extent {
 
 #[test]
 fn what_is_missing_is_named() {
-    assert_eq!(extent(inputs(11, 128, 128)).missing(), [""; 0]);
+    assert_eq!(extent(inputs(11, 128, 128)).missing(Asked::ALL), [""; 0]);
     let few = extent(inputs(11, 0, 100));
-    let missing = few.missing();
+    let missing = few.missing(Asked::ALL);
     assert_eq!(missing[0], "cards in parts (0 of 1)");
     assert_eq!(missing[1], "cards that byte 65535 decides (0 of 1)");
     assert_eq!(missing[2], "cards that byte 65536 would decide (0 of 1)");
     let calls = format!("calls of the longest replay ({} of 70000)", few.calls);
     assert_eq!(missing[3], calls);
     assert_eq!(missing.len(), 6);
-    assert_eq!(Extent::default().missing().len(), 7);
+    assert_eq!(Extent::default().missing(Asked::ALL).len(), 7);
 }
 
 /// The last value of a replay does not count: nothing comes after it.

@@ -10,12 +10,12 @@ use checker::request::Query;
 
 use crate::support::*;
 
-fn path(name: &str) -> PathBuf {
+pub fn path(name: &str) -> PathBuf {
     let checker = PathBuf::from(env!("CARGO_MANIFEST_DIR"));
     checker.join("../samples").join(name)
 }
 
-fn stored(name: &str) -> Vec<u8> {
+pub fn stored(name: &str) -> Vec<u8> {
     fs::read(path(name)).expect("the sample is stored")
 }
 

@@ -1,10 +1,16 @@
 //! The tests of the checker, as one program.
 
+mod access;
 mod balance;
 mod bench;
 mod cases;
+mod command_line;
+mod comparison;
+mod conformance;
 mod definition;
+mod describe;
 mod enumeration;
+mod explain;
 mod full_register;
 mod generator;
 mod handover;
@@ -15,6 +21,13 @@ mod questions;
 mod readings;
 mod replay_format;
 mod round_trip;
+mod runs;
 mod samples;
+mod show;
+mod shrinking;
 mod small_world;
+mod stored_inputs;
 mod support;
+mod text_form;
+mod text_samples;
+mod witness;

@@ -1,15 +1,12 @@
-//! The seeded generator of cards and replays. An input depends on the seed
-//! and its index alone.
+//! The seeded generator of cards and replays, and of requesters for cards. An
+//! input depends on the seed and its index alone.
 
 mod calls;
 mod damage;
 mod drafts;
 mod long;
+mod requester;
 mod scene;
-
-use std::fs;
-use std::io;
-use std::path::Path;
 
 use crate::bytes::field;
 use crate::card;
@@ -17,6 +14,7 @@ use crate::directive::Fields;
 use crate::random::Random;
 use crate::replay;
 pub use long::{LONGEST, MANY_CALLS};
+pub use requester::requester;
 use scene::{Profile, Scene};
 
 /// Which of the two kinds of input.
@@ -43,10 +41,6 @@ impl Input {
             InputKind::Replay => "replay",
         };
         format!("{}-{}.{extension}", self.seed, self.index)
-    }
-
-    pub fn write_into(&self, directory: &Path) -> io::Result<()> {
-        fs::write(directory.join(self.file_name()), &self.bytes)
     }
 }
 

@@ -1,0 +1,194 @@
+//! The conformance cases: replays for any implementation, each with the lines
+//! that it must print and the reading that it tests.
+
+use std::io::{self, Write};
+
+use crate::bytes::hex;
+use crate::replay::Replay;
+
+use scenario::Scenario;
+
+// Cards, drafts and replays to build the cases from.
+
+pub mod sample;
+
+pub mod scenario;
+
+// The cases, a file a topic.
+
+mod bases;
+
+mod baseline;
+
+mod briefs;
+
+mod calls;
+
+mod card_fields;
+
+mod cards;
+
+mod conflict;
+
+mod decide;
+
+mod drafts;
+
+mod examples;
+
+mod format;
+
+mod lists;
+
+mod near_readings;
+
+mod order;
+
+mod redundancy;
+
+mod tokens;
+
+mod writing;
+
+/// What a case rests on.
+#[derive(Clone, Copy, Debug, PartialEq, Eq)]
+pub enum Source {
+    /// Numbers of docs/DECISIONS.md, one blank between.
+    Decisions(&'static str),
+    /// Words of document 01, or of its demands, that decide alone.
+    Says(&'static str),
+}
+
+#[derive(Clone, Debug)]
+pub struct Case {
+    pub id: &'static str,
+    pub topic: &'static str,
+    /// What is tested, and what a wrong implementation would answer.
+    pub reading: &'static str,
+    pub source: Source,
+    /// The replay, and each line as derived from the documents.
+    pub scenario: Scenario,
+}
+
+/// The topic of a case.
+#[derive(Clone, Copy)]
+struct Topic(&'static str);
+
+impl Topic {
+    fn case(
+        self,
+        id: &'static str,
+        reading: &'static str,
+        source: Source,
+        scenario: Scenario,
+    ) -> Case {
+        Case {
+            id,
+            topic: self.0,
+            reading,
+            source,
+            scenario,
+        }
+    }
+}
+
+/// Every case, topic by topic.
+pub fn cases() -> Vec<Case> {
+    [
+        card_fields::cases(),
+        drafts::cases(),
+        baseline::cases(),
+        conflict::cases(),
+        redundancy::cases(),
+        calls::cases(),
+        decide::cases(),
+        tokens::cases(),
+        writing::cases(),
+        order::cases(),
+        bases::cases(),
+        near_readings::cases(),
+        lists::cases(),
+        cards::cases(),
+        briefs::cases(),
+        format::cases(),
+        examples::cases(),
+    ]
+    .concat()
+}
+
+impl Case {
+    /// The lines that this implementation prints.
+    pub fn answers(&self) -> Vec<String> {
+        Replay::new(&self.scenario.input)
+            .map(|answer| answer.to_string())
+            .collect()
+    }
+
+    /// What is wrong where this implementation does not answer as derived.
+    pub fn check(&self) -> Result<(), String> {
+        let answers = self.answers();
+        let derived = &self.scenario.lines;
+        let pairs = answers.iter().zip(derived);
+        if let Some((line, (answer, stated))) = (1..).zip(pairs).find(|(_, (a, b))| a != b) {
+            let id = self.id;
+            return Err(format!("{id}: line {line} is {answer}, derived {stated}"));
+        }
+        if answers.len() != derived.len() {
+            let (id, got, wanted) = (self.id, answers.len(), derived.len());
+            return Err(format!("{id}: {got} lines, derived {wanted}"));
+        }
+        Ok(())
+    }
+
+    /// The case as a line of JSON, with what this implementation prints.
+    pub fn to_json(&self) -> String {
+        let (decisions, sentence) = match self.source {
+            Source::Decisions(numbers) => (numbers.split(' ').collect(), ""),
+            Source::Says(words) => (Vec::new(), words),
+        };
+        let answers = self.answers();
+        let members = [
+            ("id", json_string(self.id)),
+            ("topic", json_string(self.topic)),
+            ("reading", json_string(self.reading)),
+            ("decisions", json_array(decisions)),
+            ("sentence", json_string(sentence)),
+            ("input", json_string(&hex(&self.scenario.input))),
+            ("expected", json_array(answers.iter().map(String::as_str))),
+        ];
+        let members = members.map(|(key, value)| format!("{}: {value}", json_string(key)));
+        format!("{{{}}}", members.join(", "))
+    }
+}
+
+/// Writes a line for each case, if each is answered as derived.
+pub fn write_cases(output: &mut impl Write) -> io::Result<()> {
+    let cases = cases();
+    for case in &cases {
+        case.check()
+            .map_err(|wrong| io::Error::new(io::ErrorKind::InvalidData, wrong))?;
+    }
+    for case in &cases {
+        writeln!(output, "{}", case.to_json())?;
+    }
+    Ok(())
+}
+
+fn json_array<'a>(texts: impl IntoIterator<Item = &'a str>) -> String {
+    let texts: Vec<String> = texts.into_iter().map(json_string).collect();
+    format!("[{}]", texts.join(", "))
+}
+
+/// A JSON string of printable ASCII; other characters as escapes.
+fn json_string(text: &str) -> String {
+    let mut json = String::from("\"");
+    for unit in text.encode_utf16() {
+        match u8::try_from(unit) {
+            Ok(byte @ (b'"' | b'\\')) => json.extend(['\\', char::from(byte)]),
+            Ok(byte @ b' '..=b'~') => json.push(char::from(byte)),
+            _ => json.push_str(&format!("\\u{unit:04x}")),
+        }
+    }
+    json.push('"');
+    json
+}

@@ -1,0 +1,48 @@
+//! A call in words.
+
+use crate::describe::{counted, states, Words};
+use crate::directive::{Fields, LENGTH};
+use crate::ledger::Ledger;
+use crate::replay::Call;
+
+/// What the call asks of this ledger.
+pub fn in_words(ledger: &Ledger, call: &Call) -> String {
+    let words = Words::of(ledger);
+    match call {
+        Call::Commit { draft } => commit(&words, draft),
+        Call::Revoke { number } => format!("Revoke directive {number}."),
+        Call::Advance { minute } => {
+            let clock = ledger.clock();
+            format!("Advance the clock from minute {clock} to minute {minute}.")
+        }
+        Call::Issue {
+            number,
+            person,
+            states: set,
+            length,
+        } => {
+            let length = usize::try_from(*length).unwrap_or(usize::MAX);
+            format!(
+                "Issue token {number} to {} for {}, for {}.",
+                words.person(*person),
+                states(*set),
+                counted(length, "minute"),
+            )
+        }
+        Call::Decide(query) => format!("Decide: {}.", words.query(query)),
+        Call::Brief { number, person } => {
+            format!("Brief on token {number} for {}.", words.person(*person))
+        }
+        Call::Write { buffer } => {
+            let buffer = counted(usize::from(*buffer), "byte");
+            format!("Write the card into a buffer of {buffer}.")
+        }
+    }
+}
+
+fn commit(words: &Words, draft: &[u8]) -> String {
+    match <&[u8; LENGTH]>::try_from(draft) {
+        Ok(bytes) => format!("Commit: {}.", words.draft(&Fields::decode(bytes))),
+        Err(_) => format!("Commit a draft of {}.", counted(draft.len(), "byte")),
+    }
+}
