@@ -1,4 +1,4 @@
-// The program `cardcheck` without its exit status.
+// The program `cardcheck` without its arguments and its exit status.
 fn main() {
-    program_cardcheck::cardcheck_main();
+    program_cardcheck::run();
 }

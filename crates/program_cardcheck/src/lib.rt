@@ -16,14 +16,9 @@ fn reply(card: &[u8], out: &mut [u8; 85]) -> usize
     text::line::put_line(out, numbers, 3, &card[..0])
 }
 
-// The whole program, which answers its exit status: 0, also for a refused card, whose line says so; 2 where there are arguments, which
-// it does not take, or a read or the write failed. Then no whole line is printed, and standard error says why.
-#[no_mangle]
-pub extern "C" fn cardcheck_main() -> i32 {
-    if os::arg_count() != 1 {
-        io::write_all(STDERR_FILENO, b"usage: cardcheck < CARD\n");
-        return streams::FAILED;
-    }
+// The program after its arguments, which answers its exit status: 0, also for a refused card, whose line says so; 2 where a read or the
+// write failed. Then no whole line is printed, and standard error says why.
+pub fn run() -> i32 {
     let mut input = [0u8; 65535];
     let filled = streams::fill(&mut input);
     let Filled::Bytes(n) = filled else {
@@ -32,4 +27,14 @@ pub extern "C" fn cardcheck_main() -> i32 {
     let mut out = [0u8; 85];
     let k = reply(&input[..n], &mut out);
     streams::put_last(&out[..k])
+}
+
+// The whole program. It takes no arguments: with any it prints its usage, reads nothing and has status 2.
+#[no_mangle]
+pub extern "C" fn cardcheck_main() -> i32 {
+    if os::arg_count() != 1 {
+        io::write_all(STDERR_FILENO, b"usage: cardcheck < CARD\n");
+        return streams::FAILED;
+    }
+    run()
 }

@@ -16,16 +16,11 @@ fn end_malformed(out: &mut [u8]) -> i32
     streams::put_last(&out[..size])
 }
 
-// The whole program, which answers its exit status: 0, also for a malformed replay, whose last line says so; 2 where there are
-// arguments, which it does not take, or a read or a write fails: it ends there, prints nothing more and says why on standard error.
-// Each line is written at once. `out` has room for 65,535 bytes in hexadecimal and the numbers before them. A proved loop has to end,
-// and nothing says that an input does: it counts its turns down, from a number that no run uses up.
-#[no_mangle]
-pub extern "C" fn replay_main() -> i32 {
-    if os::arg_count() != 1 {
-        io::write_all(STDERR_FILENO, b"usage: replay < REPLAY\n");
-        return streams::FAILED;
-    }
+// The program after its arguments, which answers its exit status: 0, also for a malformed replay, whose last line says so; 2 where a read
+// or a write fails: it ends there, prints nothing more and says why on standard error. Each line is written at once. `out` has room for
+// 65,535 bytes in hexadecimal and the numbers before them. A proved loop has to end, and nothing says that an input does: it counts its
+// turns down, from a number that no run uses up.
+pub fn run() -> i32 {
     let mut value = [0u8; 65535];
     let mut lent = [0u8; 65535];
     let mut out = [0u8; 131155];
@@ -74,4 +69,14 @@ pub extern "C" fn replay_main() -> i32 {
         }
     }
     streams::FAILED
+}
+
+// The whole program. It takes no arguments: with any it prints its usage, reads nothing and has status 2.
+#[no_mangle]
+pub extern "C" fn replay_main() -> i32 {
+    if os::arg_count() != 1 {
+        io::write_all(STDERR_FILENO, b"usage: replay < REPLAY\n");
+        return streams::FAILED;
+    }
+    run()
 }

@@ -1,4 +1,4 @@
-// The program `replay` without its exit status.
+// The program `replay` without its arguments and its exit status.
 fn main() {
-    program_replay::replay_main();
+    program_replay::run();
 }

@@ -1,19 +1,7 @@
--- `cardcheck_main`: the bytes that were read stand at the start of the buffer.
+-- `run`: the bytes that were read stand at the start of the buffer.
 use borrow.Author.Needs.{needs}
-use Rattle.program_cardcheck.proofs.cardcheck_main.Statement.{statement}
-use Rattle.program_cardcheck.proofs.cardcheck_main.Tie as tie
-
-arg-count-requires : tie.Need-arg-count-requires
-arg-count-requires c κs = search needs
-
-slice-aggregate-write-all : tie.Need-slice-aggregate-write-all
-slice-aggregate-write-all c = search needs
-
-write-all-requires : tie.Need-write-all-requires
-write-all-requires c κs = search needs
-
-returns : tie.Need-returns
-returns c = search needs
+use Rattle.program_cardcheck.proofs.run.Statement.{statement}
+use Rattle.program_cardcheck.proofs.run.Tie as tie
 
 slice-aggregate-fill : tie.Need-slice-aggregate-fill
 slice-aggregate-fill c = search needs
@@ -27,8 +15,8 @@ enum-known-filled c = search needs
 enum-told : tie.Need-enum-told
 enum-told c = search needs
 
-returns-2 : tie.Need-returns-2
-returns-2 c = search needs
+returns : tie.Need-returns
+returns c = search needs
 
 array-share-prefix-input : tie.Need-array-share-prefix-input
 array-share-prefix-input c = (rw (c .before .filled .given .1) at (c .before .before .before .before .fill .ensures)) .0
@@ -48,26 +36,22 @@ slice-aggregate-put-last c = search needs
 put-last-requires : tie.Need-put-last-requires
 put-last-requires c κs = search needs
 
-returns-3 : tie.Need-returns-3
-returns-3 c = search needs
+returns-2 : tie.Need-returns-2
+returns-2 c = search needs
 
-pub cardcheck-main-spec : {M : Type 1} → statement M
-cardcheck-main-spec =
+pub run-spec : {M : Type 1} → statement M
+run-spec =
     tie.close
     (tie.spec
-    arg-count-requires
-    slice-aggregate-write-all
-    write-all-requires
-    returns
     slice-aggregate-fill
     fill-requires
     enum-known-filled
     enum-told
-    returns-2
+    returns
     array-share-prefix-input
     slice-aggregate-reply
     reply-requires
     array-share-prefix-out
     slice-aggregate-put-last
     put-last-requires
-    returns-3)
+    returns-2)

@@ -1,4 +1,4 @@
--- `replay_main` ends: each turn counts down. The line of a turn is in the buffer, and the ledger is sound; the buffers keep their lengths. A tag
+-- `run` ends: each turn counts down. The line of a turn is in the buffer, and the ledger is sound; the buffers keep their lengths. A tag
 -- of a call is answered as a call, any other as a query.
 use mathlib.Core.Path.{_≡_, sym, _∙_}
 use native.Mathlib.Omega.{arith}
@@ -6,8 +6,8 @@ use borrow.Author.Needs.{needs}
 use lib.ListN.{length}
 use Rattle.io.specs.Counts.{Counts}
 use Rattle.ledger.specs.Invariant.{Invariant}
-use Rattle.program_replay.proofs.replay_main.Statement.{statement}
-use Rattle.program_replay.proofs.replay_main.Tie as tie
+use Rattle.program_replay.proofs.run.Statement.{statement}
+use Rattle.program_replay.proofs.run.Tie as tie
 
 abbrev Inv-loop : tie.InvT-loop
 Inv-loop value₀ lent₀ out₀ card-size ledger₀ shown₀ head₀ turns₀ value lent out ledger shown head turns =
@@ -22,18 +22,6 @@ abbrev μ-loop : tie.MeasureT-loop
 μ-loop value₀ lent₀ out₀ card-size ledger₀ shown₀ head₀ turns₀ value lent out ledger shown head turns =
     turns
 
-arg-count-requires : tie.Need-arg-count-requires Inv-loop μ-loop
-arg-count-requires c κs = search needs
-
-slice-aggregate-write-all : tie.Need-slice-aggregate-write-all Inv-loop μ-loop
-slice-aggregate-write-all c = search needs
-
-write-all-requires : tie.Need-write-all-requires Inv-loop μ-loop
-write-all-requires c κs = search needs
-
-returns : tie.Need-returns Inv-loop μ-loop
-returns c = search needs
-
 slice-aggregate-read-part : tie.Need-slice-aggregate-read-part Inv-loop μ-loop
 slice-aggregate-read-part c = search needs
 
@@ -46,8 +34,8 @@ read-part-requires c κs = search needs
 enum-told : tie.Need-enum-told Inv-loop μ-loop
 enum-told c = search needs
 
-returns-2 : tie.Need-returns-2 Inv-loop μ-loop
-returns-2 c = search needs
+returns : tie.Need-returns Inv-loop μ-loop
+returns c = search needs
 
 enum-known-card : tie.Need-enum-known-card Inv-loop μ-loop
 enum-known-card c = search needs
@@ -58,8 +46,8 @@ slice-aggregate-end-malformed c = search needs
 end-malformed-requires : tie.Need-end-malformed-requires Inv-loop μ-loop
 end-malformed-requires c κs = search needs
 
-returns-3 : tie.Need-returns-3 Inv-loop μ-loop
-returns-3 c = search needs
+returns-2 : tie.Need-returns-2 Inv-loop μ-loop
+returns-2 c = search needs
 
 array-share-prefix-value : tie.Need-array-share-prefix-value Inv-loop μ-loop
 array-share-prefix-value c = (rw (c .before .card .given .1) at (c .before .before .before .before .before .before .read-part .ensures .counts)) .0
@@ -90,11 +78,11 @@ slice-aggregate-put c = search needs
 put-requires : tie.Need-put-requires Inv-loop μ-loop
 put-requires c κs = search needs
 
+returns-3 : tie.Need-returns-3 Inv-loop μ-loop
+returns-3 c = search needs
+
 returns-4 : tie.Need-returns-4 Inv-loop μ-loop
 returns-4 c = search needs
-
-returns-5 : tie.Need-returns-5 Inv-loop μ-loop
-returns-5 c = search needs
 
 slice-aggregate-read-part-3 : tie.Need-slice-aggregate-read-part-3 Inv-loop μ-loop
 slice-aggregate-read-part-3 c = search needs
@@ -108,8 +96,8 @@ read-part-requires-2 c κs = search needs
 enum-told-2 : tie.Need-enum-told-2 Inv-loop μ-loop
 enum-told-2 c = search needs
 
-returns-6 : tie.Need-returns-6 Inv-loop μ-loop
-returns-6 c = search needs
+returns-5 : tie.Need-returns-5 Inv-loop μ-loop
+returns-5 c = search needs
 
 enum-told-3 : tie.Need-enum-told-3 Inv-loop μ-loop
 enum-told-3 c = search needs
@@ -120,14 +108,14 @@ slice-aggregate-end-malformed-2 c = search needs
 end-malformed-requires-2 : tie.Need-end-malformed-requires-2 Inv-loop μ-loop
 end-malformed-requires-2 c κs = search needs
 
-returns-7 : tie.Need-returns-7 Inv-loop μ-loop
-returns-7 c = search needs
+returns-6 : tie.Need-returns-6 Inv-loop μ-loop
+returns-6 c = search needs
 
 enum-known-entry : tie.Need-enum-known-entry Inv-loop μ-loop
 enum-known-entry c = search needs
 
-returns-8 : tie.Need-returns-8 Inv-loop μ-loop
-returns-8 c = search needs
+returns-7 : tie.Need-returns-7 Inv-loop μ-loop
+returns-7 c = search needs
 
 array-read-tag : tie.Need-array-read-tag Inv-loop μ-loop
 array-read-tag c = search needs
@@ -149,7 +137,7 @@ slice-aggregate-answer-call-2 c = search needs
 
 answer-call-requires : tie.Need-answer-call-requires Inv-loop μ-loop
 answer-call-requires c κs =
-    (sym (c .before .before .before .is-call .ensures) ∙ c .before .before .if4 .taken, search needs, search needs)
+    (sym (c .before .before .before .is-call .ensures) ∙ c .before .before .if3 .taken, search needs, search needs)
 
 loop-less : tie.Need-loop-less Inv-loop μ-loop
 loop-less c = omega (arith, c .before .before .before .before .before .before .before .before .before .before .before .before .before .before .before .before .before .before .before .before .before .before .before .before .loop-test .taken)
@@ -168,7 +156,7 @@ slice-aggregate-answer-query-2 c = search needs
 
 answer-query-requires : tie.Need-answer-query-requires Inv-loop μ-loop
 answer-query-requires c κs =
-    (sym (c .before .before .before .is-call .ensures) ∙ c .before .before .if4 .left, search needs, search needs)
+    (sym (c .before .before .before .is-call .ensures) ∙ c .before .before .if3 .left, search needs, search needs)
 
 loop-less-2 : tie.Need-loop-less-2 Inv-loop μ-loop
 loop-less-2 c = search needs
@@ -176,28 +164,24 @@ loop-less-2 c = search needs
 loop-again-2 : tie.Need-loop-again-2 Inv-loop μ-loop
 loop-again-2 c = search needs
 
-returns-9 : tie.Need-returns-9 Inv-loop μ-loop
-returns-9 c = search needs
+returns-8 : tie.Need-returns-8 Inv-loop μ-loop
+returns-8 c = search needs
 
-pub replay-main-spec : {M : Type 1} → statement M
-replay-main-spec =
+pub run-spec : {M : Type 1} → statement M
+run-spec =
     tie.close
     (tie.spec
     Inv-loop
     μ-loop
-    arg-count-requires
-    slice-aggregate-write-all
-    write-all-requires
-    returns
     slice-aggregate-read-part
     slice-aggregate-read-part-2
     read-part-requires
     enum-told
-    returns-2
+    returns
     enum-known-card
     slice-aggregate-end-malformed
     end-malformed-requires
-    returns-3
+    returns-2
     array-share-prefix-value
     slice-aggregate-answer-card
     slice-aggregate-answer-card-2
@@ -207,19 +191,19 @@ replay-main-spec =
     array-share-prefix-out
     slice-aggregate-put
     put-requires
+    returns-3
     returns-4
-    returns-5
     slice-aggregate-read-part-3
     slice-aggregate-read-part-4
     read-part-requires-2
     enum-told-2
-    returns-6
+    returns-5
     enum-told-3
     slice-aggregate-end-malformed-2
     end-malformed-requires-2
-    returns-7
+    returns-6
     enum-known-entry
-    returns-8
+    returns-7
     array-read-tag
     array-share-prefix-value-2
     slice-aggregate-part
@@ -234,4 +218,4 @@ replay-main-spec =
     answer-query-requires
     loop-less-2
     loop-again-2
-    returns-9)
+    returns-8)
