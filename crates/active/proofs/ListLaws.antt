@@ -1,11 +1,11 @@
 -- Laws of an active list: its entries one by one, and what a change does to its directives and to its invariant.
-use Prim.Native.Nat.{ℕ, _<_, _≤_}
+use Prim.Native.Nat.{ℕ, _+_, _-_, _<_, _≤_}
 use mathlib.Core.Path.{_≡_, refl, sym, ap, ap₂, _∙_}
 use mathlib.Core.Bool.{Bool, not}
 use mathlib.Core.List.{List, [], _∷_, _++_, map, map-append}
 use native.Mathlib.Omega.{arith}
-use lib.ListN.{length, take, getD, length-take, length-map, List·getD-map}
-use lib.Seq.{getD-take}
+use lib.ListN.{length, take, getD, length-take, length-map, length-append, List·getD-map}
+use lib.Seq.{getD-take, getD-append-seam}
 use Rattle.sets.specs.Quantifiers.{someIn, keep}
 use Rattle.sets.specs.RecordSets.{contains}
 use Rattle.sets.proofs.Keep.{keep-map}
@@ -64,6 +64,19 @@ module _ (l : ActiveList) (i : ℕ) (h : i < length (directivesOf l)) where
   selects-at {rs} held few x =
       ap (λ (a : Active). contains (a .selected) x) (selected-at held)
       ∙ contains-selected rs (getD (l .entries) i noActive .directive) x few
+
+-- the last entry
+pub last-at :
+    (l : ActiveList) (ds : List Directive) {rs : List Record} {d : Directive} {n : ℕ} →
+    n ≡ length (directivesOf l) → ActiveInvariant rs l → directivesOf l ≡ ds ++ (d ∷ []) →
+    (0 < n) × (getD (l .entries) (n - 1) noActive ≡ activeIn rs d)
+last-at l ds {rs} {d} {n} sized held is =
+    let long : n ≡ length ds + 1 = sized ∙ ap length is ∙ length-append ds (d ∷ []) in
+    let at : n - 1 ≡ length ds = omega arith in (
+      omega arith,
+      entry-at l (n - 1) (rw (← sized) (omega arith)) held
+          ∙ ap (activeIn rs) (rw (is, at) (getD-append-seam ds d [] noDirective)),
+    )
 
 -- one entry more
 module _ {l r : ActiveList} {a : Active} (pushed : Pushed l a r) where

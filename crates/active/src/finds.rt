@@ -2,14 +2,18 @@
 use crate::ActiveList;
 use directive::Request;
 use directive::lowest::Best;
+use sets::record_set::RecordSet;
 ghost use mathlib.Core.Path.{_≡_};
-ghost use mathlib.Core.List.{List};
+ghost use mathlib.Core.List.{List, [], _∷_, _++_};
 ghost use Prim.Native.Nat.{_≤_};
 ghost use lib.ListN.{length, take};
 ghost use lib.Dec.{eqb};
 ghost use Rattle.sets.specs.Quantifiers.{someIn, keep};
+ghost use Rattle.sets.specs.RecordSets.{recordSetOf};
 ghost use Rattle.register.specs.declared.Record.{Record as Held};
 ghost use Rattle.register.specs.Register.{recordPlaces, holding};
+ghost use Rattle.directive.specs.declared.Directive.{Directive as Given};
+ghost use Rattle.directive.specs.Selection.{selects};
 ghost use Rattle.directive.specs.Matching.{matches};
 ghost use Rattle.directive.specs.Lowest.{bestOf};
 ghost use Rattle.active.specs.Active.{directivesOf, ActiveInvariant};
@@ -27,6 +31,18 @@ pub fn is_active(l: ActiveList, number: u16) -> bool
         }
     }
     false
+}
+
+// The records that the last directive selects; free where the list is empty.
+pub fn last_selection(l: ActiveList) -> RecordSet
+    ensures { λ w. ⌜ ((rs : List Held) (ds : List Given) (d : Given) → ActiveInvariant rs l → directivesOf l ≡ ds ++ (d ∷ []) → w ≡ recordSetOf (selects rs d)) ⌝ }
+{
+    let n = crate::size(l);
+    if n == 0 {
+        return sets::record_set::empty();
+    }
+    let a = l.entries[n - 1];
+    a.selected
 }
 
 // The lowest of the directives that match the request.

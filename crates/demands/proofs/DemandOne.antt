@@ -8,6 +8,7 @@ use Rattle.ledger_model.specs.Model.{Model}
 use Rattle.ledger_model.specs.Answer.{Answer, done, refused, accepted}
 use Rattle.ledger_model.specs.Questions.{Question, firstNo, passes, outcome}
 use Rattle.ledger_model.specs.Calls.{committedBy, revoked, advanced, issued, decided, briefed}
+use Rattle.ledger_model.specs.Preview.{previewed}
 use Rattle.ledger.specs.Promises.{Gives}
 use Rattle.ledger_model.proofs.Questions.{first-passed}
 use Rattle.card.specs.Writing.{writing, buffered}
@@ -36,7 +37,7 @@ gives-answered {vs} kept h =
     (λ q _ refuses. h .unchanged (ap accepted refuses))
 
 pub demand1 : Demand1
-unfolding committedBy revoked advanced issued decided briefed writing buffered
+unfolding committedBy revoked advanced issued decided briefed previewed writing buffered
 demand1 =
     record {
       read = λ card r e gives. gives-answered _ gives;
@@ -46,6 +47,8 @@ demand1 =
       issue = λ l n p states minutes r k gives. gives-answered _ (gives (meant-sound l k));
       decide = λ l q a k gives. answered _ (gives (meant-sound l k)) (λ _ same. same) (λ _ _ _. refl);
       brief = λ l n p a k gives. answered _ (gives (meant-sound l k)) (λ _ same. same) (λ _ _ _. refl);
+      preview = λ l s w r k e gives.
+          answered _ (gives .answer (meant-sound l k)) (λ _ same. (same, gives .ledger)) (λ _ _ _. gives .ledger);
       write = λ l before a after k gives.
           let fills = gives (meant-sound l k) in
           answered _ (fills .answer)

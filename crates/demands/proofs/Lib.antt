@@ -9,3 +9,4 @@ pub mod Exactness
 pub mod Cards
 pub mod DemandTwo
 pub mod DemandThree
+pub mod Foresight

@@ -11,6 +11,7 @@ use Rattle.sets.specs.Numbers.{isBytes}
 use Rattle.directive.specs.declared.Directive.{Directive}
 use Rattle.directive.specs.declared.Request.{Request}
 use Rattle.directive.specs.declared.Query.{Query}
+use Rattle.directive.specs.declared.Requester.{Requester}
 use Rattle.directive.specs.Matching.{matches}
 use Rattle.validation_meaning.specs.Requests.{persons, everyRequest, someRequest, InRange}
 use Rattle.validation_meaning.specs.Meaning.{sameEffect}
@@ -30,8 +31,12 @@ use Rattle.ledger_model.specs.Decision.{matching, isPatient, isAuthor, decision
 use Rattle.ledger_model.specs.Xacml.{Effect, directivesSay, denyOverrides, permitOverrides, results, effectOf}
 use Rattle.ledger_model.specs.Questions.{Question, passes, questionsBefore, bytesQuestions, revokeQuestions, advanceQuestions, decideQuestions, issueQuestions, briefQuestions}
 use Rattle.ledger_model.specs.Calls.{commit, advance, Call, drafted, afterCommit, afterRevoke, afterAdvance, afterIssue, dropped, briefValues, decided, briefed, modelAfter, answers}
+use Rattle.ledger_model.specs.Preview.{previewQuestions, previewValues}
 use Rattle.ledger_model.specs.Compatible.{compatible}
 use Rattle.ledger.specs.Promises.{Commits, Revokes, Advances, Issues, Decides, Briefs}
+use Rattle.ledger_preview.specs.declared.PreviewResult.{PreviewResult}
+use Rattle.ledger_preview.specs.Answer.{previewAnswer}
+use Rattle.ledger_preview.specs.Promises.{Previews}
 use Rattle.card.specs.declared.ReadResult.{ReadResult}
 use Rattle.card.specs.declared.WriteAnswer.{WriteAnswer}
 use Rattle.card.specs.Answer.{readAnswer, writeAnswer}
@@ -46,7 +51,7 @@ pub data FirstMissed : List Question → Question → Type 0 where
   here : {q : Question} {qs : List Question} → q .holds ≡ false → FirstMissed (q ∷ qs) q
   later : {p q : Question} {qs : List Question} → p .holds ≡ true → FirstMissed qs q → FirstMissed (p ∷ qs) q
 
--- What is asked of a call whose questions are qs: where it meets them, the result written in document 01, `met`; where it does
+-- What is asked of a call whose questions are qs: where it meets them, the result written in the documents, `met`; where it does
 -- not, "the number of the first question it misses", and what comes back is `before`: the ledger or the buffer handed in, or
 -- the empty ledger after a refused card.
 pub record Answered {S : Type 0} (qs : List Question) (met : Answer → S → Type 0) (before : S) (a : Answer) (after : S) :
@@ -61,6 +66,10 @@ Succeeds vs m a l = (a ≡ done vs) × (view l ≡ m)
 -- success of a call that leaves the ledger alone
 abbrev pub Tells : List ℕ → Answer → Unit {0} → Type 0
 Tells vs a u = a ≡ done vs
+
+-- success of a call that hands the ledger back
+abbrev pub HandsBack : Ledger → List ℕ → Answer → Ledger → Type 0
+HandsBack l vs a after = (a ≡ done vs) × (after ≡ l)
 
 -- success of a write: the length of the card, and the card's bytes before what stood after them
 abbrev pub Filled : List ℕ → List ℕ → Answer → List ℕ → Type 0
@@ -104,6 +113,10 @@ pub record Demand1 : Type 0 where
   pub write :
       (l : Ledger) (before : List ℕ) (a : WriteAnswer) (after : List ℕ) → Reachable l → Writes l before a after →
       Answered (writeQuestions (view l) before) (Filled (cardBytes (view l)) before) before (writeAnswer a) after
+  -- document 02, #101: a draft of any length and content, and any requester; the ledger handed in comes back, whatever the answer
+  pub preview :
+      (l : Ledger) (s : List ℕ) (w : Requester) (r : PreviewResult) → Reachable l → isBytes s ≡ true → Previews l s w r →
+      Answered (previewQuestions (view l) s w) (HandsBack l (previewValues (view l) s w)) l (previewAnswer (r .answer)) (r .ledger)
 
 -- the effect (1 permit, 0 deny) and the basis of a decide's answer
 abbrev pub effectAndBasis : DecideAnswer → List ℕ

@@ -11,6 +11,7 @@ use Rattle.directive.specs.declared.Subject.the-variants.{Person, Role}
 use Rattle.directive.specs.declared.Directive.{Directive}
 use Rattle.directive.specs.declared.Request.{Request}
 use Rattle.directive.specs.declared.Query.{Query}
+use Rattle.directive.specs.declared.Requester.{Requester}
 use Rattle.directive.specs.Selection.{selects}
 
 -- the person or the role that a subject names
@@ -53,4 +54,15 @@ requestAt q m =
       «record» = q .«record»;
       purpose = q .purpose;
       minute = m;
+    }
+
+-- the query of a requester (document 02, #101: person, role, origin, purpose) for record x
+abbrev pub queryOn : Requester → ℕ → Query
+queryOn w x =
+    record {
+      person = w .person;
+      role = w .role;
+      origin = w .origin;
+      «record» = x;
+      purpose = w .purpose;
     }

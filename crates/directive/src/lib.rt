@@ -1,5 +1,6 @@
 // Directives and requests.
 ghost use mathlib.Core.Path.{_≡_};
+ghost use Rattle.directive.specs.Matching.{queryOn};
 ghost use Rattle.directive.specs.Nothing.{noDirective};
 
 pub mod lowest;
@@ -45,6 +46,27 @@ pub struct Query {
     pub origin: u8,
     pub record: u8,
     pub purpose: u8,
+}
+
+// Who asks, from where and what for: a query without its record.
+pub struct Requester {
+    pub person: u16,
+    pub role: u16,
+    pub origin: u8,
+    pub purpose: u8,
+}
+
+// The requester's query for record x.
+pub fn query_on(w: Requester, x: u8) -> Query
+    ensures { λ q. ⌜ q ≡ queryOn w x ⌝ }
+{
+    Query {
+        person: w.person,
+        role: w.role,
+        origin: w.origin,
+        record: x,
+        purpose: w.purpose,
+    }
 }
 
 // What fills a place that holds no directive.

@@ -11,3 +11,4 @@ pub mod Clash
 pub mod Saying
 pub mod Order
 pub mod Cases
+pub mod PreviewLaws

@@ -4,6 +4,7 @@ pub mod Decision
 pub mod Xacml
 pub mod Questions
 pub mod Calls
+pub mod Preview
 pub mod Compatible
 pub mod Invariant
 pub mod Cases

@@ -118,7 +118,7 @@ module _ {A : Type 0} (p : A → Bool) where
       (λ (e : p a ≡ false). rw (e, keep-append s t))
       (either-way (p a))
 
-  keep-snoc : (l : List A) (a : A) → keep p (l ++ (a ∷ [])) ≡ pick (p a) (keep p l ++ (a ∷ [])) (keep p l)
+  pub keep-snoc : (l : List A) (a : A) → keep p (l ++ (a ∷ [])) ≡ pick (p a) (keep p l ++ (a ∷ [])) (keep p l)
   unfolding keep
   keep-snoc l a =
       ⊎-elim
