@@ -4,10 +4,11 @@ use mathlib.Core.Path.{_≡_}
 use mathlib.Core.Bool.{Bool, false, _||_}
 use mathlib.Core.List.{List, [], _++_}
 use lib.ListN.{length, take, drop, getD}
-use lib.Dec.{eqb}
+use lib.Dec.{eqb, leb}
 use Rattle.sets.specs.Quantifiers.{pick}
 use Rattle.sets.specs.Numbers.{numberAt}
 use Rattle.directive.specs.declared.Query.{Query}
+use Rattle.directive.specs.declared.Requester.{Requester}
 use Rattle.validation_meaning.specs.Judgement.{meant}
 use Rattle.ledger.specs.declared.Ledger.{Ledger}
 use Rattle.ledger_model.specs.Model.{Model}
@@ -15,7 +16,9 @@ use Rattle.ledger.specs.State.{view}
 use Rattle.ledger_model.specs.Answer.{Answer, accepted, values, answerLine}
 use Rattle.ledger.specs.Answer.{commitAnswer, revokeAnswer, advanceAnswer, issueAnswer, briefAnswer, decideAnswer}
 use Rattle.ledger_model.specs.Calls.{Call, commit, revoke, advance, issue, calledBy, decided, briefed}
+use Rattle.ledger_model.specs.Preview.{previewed}
 use Rattle.ledger.specs.Invariant.{Invariant}
+use Rattle.ledger_preview.specs.Answer.{previewAnswer}
 use Rattle.card.specs.Answer.{writeAnswer}
 use Rattle.card.specs.Writing.{writing, buffered}
 use Rattle.replay_entries.specs.declared.entry.EntryAnswer.{EntryAnswer}
@@ -23,12 +26,14 @@ use Rattle.replay_entries.specs.declared.entry.EntryAnswer.the-variants 
 use Rattle.replay_entries.specs.declared.entry.EntryResult.{EntryResult}
 use Rattle.replay_entries.specs.declared.line.Line.{Line}
 
--- An entry: a call that can change the ledger, a decide, a brief for a number and a person, a write into a buffer of a length.
+-- An entry: a call that can change the ledger, a decide, a brief for a number and a person, a write into a buffer of a length, a preview
+-- of a draft's bytes for a requester.
 pub data Entry : Type 0 where
   call : Call → Entry
   decide : Query → Entry
   brief : ℕ → ℕ → Entry
   write : ℕ → Entry
+  preview : Requester → List ℕ → Entry
   malformed : Entry
 
 abbrev pub querySize : ℕ
@@ -45,11 +50,24 @@ queryOf v =
       purpose = numberAt 6 1 v;
     }
 
+abbrev pub requesterSize : ℕ
+requesterSize = 6
+
+-- a requester: person 2, role 2, origin 1, purpose 1
+abbrev pub requesterOf : List ℕ → Requester
+requesterOf v =
+    record {
+      person = numberAt 0 2 v;
+      role = numberAt 2 2 v;
+      origin = numberAt 4 1 v;
+      purpose = numberAt 5 1 v;
+    }
+
 -- the entry e where the value has n bytes
 abbrev pub sized : ℕ → List ℕ → Entry → Entry
 sized n v e = pick (eqb (length v) n) e malformed
 
--- The entry that a value writes under each tag: a draft of any length, and any other call in its one length.
+-- The entry that a value writes under each tag: a draft has any length, also after a requester, and any other value its one length.
 abbrev pub commitEntry : List ℕ → Entry
 commitEntry v = call (commit v)
 
@@ -76,6 +94,11 @@ briefEntry v = sized 4 v (brief (numberAt 0 2 v) (numberAt 2 2 v))
 abbrev pub writeEntry : List ℕ → Entry
 writeEntry v = sized 2 v (write (numberAt 0 2 v))
 
+-- preview's value: a requester, then a draft
+abbrev pub previewEntry : List ℕ → Entry
+previewEntry v =
+    pick (leb requesterSize (length v)) (preview (requesterOf v) (drop requesterSize v)) malformed
+
 -- The entry that a tag and a value write.
 unfoldable pub entryOf : ℕ → List ℕ → Entry
 entryOf tag v =
@@ -85,7 +108,8 @@ entryOf tag v =
     (pick (eqb tag 0x13) (issueEntry v)
     (pick (eqb tag 0x14) (decideEntry v)
     (pick (eqb tag 0x15) (briefEntry v)
-    (pick (eqb tag 0x16) (writeEntry v) malformed))))))
+    (pick (eqb tag 0x16) (writeEntry v)
+    (pick (eqb tag 0x17) (previewEntry v) malformed)))))))
 
 -- the tags of the calls that can change the ledger
 unfoldable pub isCall : ℕ → Bool
@@ -99,7 +123,7 @@ callEntry tag v = pick (isCall tag) (entryOf tag v) malformed
 abbrev pub queryEntry : ℕ → List ℕ → Entry
 queryEntry tag v = pick (isCall tag) malformed (entryOf tag v)
 
--- What an entry is told: an answer of document 01 to the call of a tag, or that it is malformed.
+-- What an entry is told: an answer of document 01 or 02 to the call of a tag, or that it is malformed.
 pub data Said : Type 0 where
   says : ℕ → Answer → Said
   nothing : Said
@@ -112,6 +136,7 @@ saidOf (Case.Issue a) = says 0x13 (issueAnswer a)
 saidOf (Case.Decide a) = says 0x14 (decideAnswer a)
 saidOf (Case.Brief a) = says 0x15 (briefAnswer a)
 saidOf (Case.Write a) = says 0x16 (writeAnswer a)
+saidOf (Case.Preview a) = says 0x17 (previewAnswer a)
 saidOf Case.Malformed = nothing
 
 -- the tag of a call
@@ -127,6 +152,7 @@ saidTo m (call c) buffer = says (callTag c) (calledBy meant m c .answer)
 saidTo m (decide q) buffer = says 0x14 (decided m q)
 saidTo m (brief n p) buffer = says 0x15 (briefed m n p)
 saidTo m (write n) buffer = says 0x16 (writing m (take n buffer))
+saidTo m (preview w s) buffer = says 0x17 (previewed m s w)
 saidTo m malformed buffer = nothing
 
 -- the model after an entry
@@ -135,6 +161,7 @@ afterEntry m (call c) = calledBy meant m c .model
 afterEntry m (decide q) = m
 afterEntry m (brief n p) = m
 afterEntry m (write n) = m
+afterEntry m (preview w s) = m
 afterEntry m malformed = m
 
 -- the buffer after an entry: what is past the part that was lent stays
@@ -146,6 +173,7 @@ bufferAfter m (call c) buffer = buffer
 bufferAfter m (decide q) buffer = buffer
 bufferAfter m (brief n p) buffer = buffer
 bufferAfter m (write n) buffer = lentAfter m n buffer
+bufferAfter m (preview w s) buffer = buffer
 bufferAfter m malformed buffer = buffer
 
 -- all that can change the ledger is a call that succeeds
@@ -155,6 +183,7 @@ changes (call c) nothing = false
 changes (decide q) s = false
 changes (brief n p) s = false
 changes (write n) s = false
+changes (preview w s) a = false
 changes malformed s = false
 
 -- One entry on a ledger that keeps the invariant: the answer, the ledger's view and the buffer are the model's; a call that is refused

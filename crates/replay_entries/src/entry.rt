@@ -1,6 +1,7 @@
 // One call as a replay writes it: a tag and a value.
 use card::WriteAnswer;
 use directive::Query;
+use directive::Requester;
 use ledger::Ledger;
 use ledger::answer::AdvanceAnswer;
 use ledger::answer::BriefAnswer;
@@ -8,11 +9,12 @@ use ledger::answer::CommitAnswer;
 use ledger::answer::DecideAnswer;
 use ledger::answer::IssueAnswer;
 use ledger::answer::RevokeAnswer;
+use ledger_preview::PreviewAnswer;
 ghost use mathlib.Core.Path.{_≡_};
 ghost use mathlib.Core.List.{List};
 ghost use Prim.Native.Nat.{ℕ, _≤_};
 ghost use lib.ListN.{length};
-ghost use Rattle.replay_entries.specs.Entries.{querySize, queryOf, isCall, commitEntry, revokeEntry, advanceEntry, issueEntry, decideEntry, briefEntry, writeEntry, callEntry, queryEntry, Performs, Answers};
+ghost use Rattle.replay_entries.specs.Entries.{querySize, queryOf, requesterSize, requesterOf, isCall, commitEntry, revokeEntry, advanceEntry, issueEntry, decideEntry, briefEntry, writeEntry, previewEntry, callEntry, queryEntry, Performs, Answers};
 
 // One case a call; a tag or a length that no call has is malformed.
 pub enum EntryAnswer {
@@ -23,6 +25,7 @@ pub enum EntryAnswer {
     Decide(DecideAnswer),
     Brief(BriefAnswer),
     Write(WriteAnswer),
+    Preview(PreviewAnswer),
     Malformed,
 }
 
@@ -151,6 +154,32 @@ fn write_entry(l: Ledger, v: &[u8], buffer: &mut [u8]) -> EntryAnswer
     EntryAnswer::Write(answer)
 }
 
+// The requester at the start of a preview's value.
+fn requester_of(value: &[u8]) -> Requester
+    requires { ⌜ requesterSize ≤ length (now value) ⌝ }
+    ensures { λ w. ⌜ w ≡ requesterOf (now (value .entry)) ⌝ }
+{
+    Requester {
+        person: sets::number::get2(value, 0),
+        role: sets::number::get2(value, 2),
+        origin: sets::number::get1(value, 4),
+        purpose: sets::number::get1(value, 5),
+    }
+}
+
+// The draft is all that follows the requester.
+fn preview_entry(l: Ledger, v: &[u8]) -> EntryAnswer
+    ensures { λ a. ⌜ ((buffer : List ℕ) → Answers l (previewEntry (now (v .entry))) buffer a buffer) ⌝ }
+{
+    if v.len() < 6 {
+        return EntryAnswer::Malformed;
+    }
+    let w = requester_of(v);
+    let r = ledger_preview::preview(l, &v[6..], w);
+    let answer = r.answer;
+    EntryAnswer::Preview(answer)
+}
+
 // Whether the tag is of a call that can change the ledger.
 pub fn is_call(tag: u8) -> bool
     ensures { λ b. ⌜ b ≡ isCall tag ⌝ }
@@ -188,6 +217,7 @@ pub fn run_query(l: Ledger, tag: u8, v: &[u8], buffer: &mut [u8]) -> EntryAnswer
         0x14 => decide_entry(l, v),
         0x15 => brief_entry(l, v),
         0x16 => write_entry(l, v, buffer),
+        0x17 => preview_entry(l, v),
         _ => EntryAnswer::Malformed,
     }
 }

@@ -8,12 +8,14 @@ use ledger::answer::DecideAnswer;
 use ledger::answer::DirectiveRefusal;
 use ledger::answer::IssueAnswer;
 use ledger::answer::RevokeAnswer;
+use ledger_preview::PreviewAnswer;
 ghost use mathlib.Core.Path.{_≡_};
 ghost use mathlib.Core.List.{[], _∷_};
 ghost use Prim.Native.Nat.{_≤_};
 ghost use lib.ListN.{take};
 ghost use Rattle.sets.specs.Quantifiers.{oneIf};
 ghost use Rattle.ledger.specs.Answer.{directiveAnswer, commitAnswer, revokeAnswer, advanceAnswer, issueAnswer, briefAnswer, decideAnswer};
+ghost use Rattle.ledger_preview.specs.Answer.{previewAnswer};
 ghost use Rattle.card.specs.Answer.{writeAnswer};
 ghost use Rattle.ledger_model.specs.Answer.{answerLine};
 ghost use Rattle.replay_entries.specs.Entries.{saidOf, lineOf, lengthOf, shownOf, Shows};
@@ -136,6 +138,21 @@ fn write_line(a: WriteAnswer) -> Line
     }
 }
 
+// A draft that would be refused has the line of its commit.
+fn preview_line(a: PreviewAnswer) -> Line
+    ensures { λ r. ⌜ Shows r (answerLine (previewAnswer a)) 0 ⌝ }
+{
+    match a {
+        PreviewAnswer::Changes { records, count } => {
+            numbered(4, 0, records.low, records.high, count as u64)
+        }
+        PreviewAnswer::WrongLength => commit_line(CommitAnswer::WrongLength),
+        PreviewAnswer::Refused(why) => commit_line(CommitAnswer::Refused(why)),
+        PreviewAnswer::Redundant => commit_line(CommitAnswer::Redundant),
+        PreviewAnswer::RequesterOutOfRange => numbered(1, 17, 0, 0, 0),
+    }
+}
+
 pub fn line_of(a: EntryAnswer) -> Line
     ensures { λ r. ⌜ Shows r (lineOf (saidOf a)) (shownOf (saidOf a)) ⌝ }
 {
@@ -147,6 +164,7 @@ pub fn line_of(a: EntryAnswer) -> Line
         EntryAnswer::Decide(b) => decide_line(b),
         EntryAnswer::Brief(b) => brief_line(b),
         EntryAnswer::Write(b) => write_line(b),
+        EntryAnswer::Preview(b) => preview_line(b),
         EntryAnswer::Malformed => numbered(0, 0, 0, 0, 0),
     }
 }

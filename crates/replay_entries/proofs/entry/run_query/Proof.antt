@@ -15,6 +15,9 @@ brief-entry-requires c κs = search needs
 write-entry-requires : tie.Need-write-entry-requires
 write-entry-requires c κs = search needs
 
+preview-entry-requires : tie.Need-preview-entry-requires
+preview-entry-requires c κs = search needs
+
 returns : tie.Need-returns
 unfolding entryOf isCall
 returns c = rw (c .before .match .keys1) (c .decide-entry .ensures _)
@@ -32,9 +35,14 @@ returns-3 c = rw (c .before .before .before .before .match .keys3) (c .before .b
 
 returns-4 : tie.Need-returns-4
 unfolding entryOf isCall
-returns-4 c invariant =
+returns-4 c = rw (c .before .match .keys4) (c .preview-entry .ensures _)
+
+returns-5 : tie.Need-returns-5
+unfolding entryOf isCall
+returns-5 c invariant =
     let none = c .match .rest in
-    rw (ne-eqb _ _ (none .0 .0 .1), ne-eqb _ _ (none .0 .1), ne-eqb _ _ (none .1), no-query) (nothing-done invariant)
+    rw (ne-eqb _ _ (none .0 .0 .0 .1), ne-eqb _ _ (none .0 .0 .1), ne-eqb _ _ (none .0 .1), ne-eqb _ _ (none .1), no-query)
+    (nothing-done invariant)
 
 pub run-query-spec : {M : Type 1} → statement M
 run-query-spec =
@@ -43,8 +51,10 @@ run-query-spec =
     decide-entry-requires
     brief-entry-requires
     write-entry-requires
+    preview-entry-requires
     returns
     returns-2
     same-length
     returns-3
-    returns-4)
+    returns-4
+    returns-5)
