@@ -1,4 +1,4 @@
--- Laws of a text's digits and of the number that they write, a place at a time.
+-- Laws of digits and of the number that they write, a place at a time.
 use Prim.Native.Nat.{ℕ, _+_, _*_, _≤_, _<_}
 use mathlib.Core.Path.{_≡_}
 use mathlib.Core.Logic.{⊎-elim}
@@ -20,25 +20,17 @@ digit-bounds b e =
     let (low, high) = and-both (leb 48 b) (leb b 57) e in
     (leb-true 48 b low, leb-true b 57 high)
 
--- what is left of a text from place i on: the byte there, and what is left after it
-module _ (s : List ℕ) (i : ℕ) (h : i < length s) where
-  pub all-here : allIn isDigit (drop i s) ≡ isDigit (getD s i 0) && allIn isDigit (drop (i + 1) s)
-  unfolding allIn
-  all-here = rw (drop-cons s i 0 h, add-one)
-
-  pub value-here : (a : ℕ) → valueFrom a (drop i s) ≡ valueFrom (a * 10 + digitOf (getD s i 0)) (drop (i + 1) s)
+-- what is left of the digits from place i on: the digit there, and what is left after it
+module _ (s : List ℕ) (i : ℕ) where
+  pub value-here :
+      i < length s → (a : ℕ) → valueFrom a (drop i s) ≡ valueFrom (a * 10 + digitOf (getD s i 0)) (drop (i + 1) s)
   unfolding valueFrom
-  value-here a = rw (drop-cons s i 0 h, add-one)
+  value-here h a = rw (drop-cons s i 0 h, add-one)
 
--- nothing is left past the last place
-module _ (s : List ℕ) (i : ℕ) (e : i ≡ length s) where
-  pub all-end : allIn isDigit (drop i s) ≡ true
-  unfolding allIn
-  all-end = rw (e, drop-length)
-
-  pub value-end : (a : ℕ) → valueFrom a (drop i s) ≡ a
+  -- nothing is left past the last place
+  pub value-end : i ≡ length s → (a : ℕ) → valueFrom a (drop i s) ≡ a
   unfolding valueFrom
-  value-end a = rw (e, drop-length)
+  value-end e a = rw (e, drop-length)
 
 -- what is refused, and what is a number
 module _ (most : ℕ) (s : List ℕ) where

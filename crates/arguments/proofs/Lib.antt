@@ -1,2 +1,4 @@
+pub mod TextLaws
 pub mod DecimalLaws
+pub mod HexadecimalLaws
 pub mod Examples

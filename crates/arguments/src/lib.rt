@@ -1,10 +1,12 @@
-// A program's arguments as decimal numbers.
+// A program's arguments, as decimal numbers here and as bytes in hexadecimal below.
 ghost use mathlib.Core.Path.{_≡_};
 ghost use mathlib.Core.Bool.{true};
 ghost use Prim.Native.Nat.{_≤_};
 ghost use lib.ListN.{length};
 ghost use Rattle.sets.specs.Quantifiers.{allIn};
 ghost use Rattle.arguments.specs.Decimal.{isDigit, digitOf, value, mostDigits, numberUpTo, readAs, Bounded};
+
+pub mod hexadecimal;
 
 // The most digits that a number may have, zeros in front among them.
 const MOST_DIGITS: usize = 5;

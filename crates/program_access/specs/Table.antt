@@ -1,30 +1,20 @@
--- Who may read which record at the card's clock, in words: a line a record, `record 1: deny, basis 3 (directive 7)`.
+-- Who may read which record at the card's clock, in words: a line a record, `record 1: deny, basis 3 (directive 7)`. With a draft, what
+-- would change by its commit stands in the same line: `record 1: permit, basis 4 (default), changes to deny, basis 3 (directive 7)`.
 use Prim.Native.Nat.{ℕ, zero, suc}
-use mathlib.Core.Bool.{Bool, _&&_}
+use mathlib.Core.Bool.{Bool, true, false, _&&_}
 use mathlib.Core.List.{List, [], _∷_, _++_}
 use lib.ListN.{length}
 use lib.Dec.{eqb}
 use Rattle.sets.specs.Quantifiers.{pick}
-use Rattle.directive.specs.declared.Query.{Query}
+use Rattle.directive.specs.declared.Requester.{Requester}
+use Rattle.directive.specs.Matching.{queryOn}
 use Rattle.ledger_model.specs.Answer.{Answer, done, refused, refusal}
 use Rattle.ledger_model.specs.Model.{Model}
-use Rattle.ledger_model.specs.Questions.{requesterInRange}
-use Rattle.ledger_model.specs.Calls.{decided}
+use Rattle.ledger_model.specs.Calls.{committed, decided}
+use Rattle.ledger_model.specs.Preview.{decisionChanges, requesterPasses}
 use Rattle.card.specs.Reading.{reading}
 use Rattle.text.specs.Text.{decimal, lineEnd, numbersText}
-use Rattle.program_access.specs.Words.{recordWord, colonWord, permitWord, denyWord, basisWord, openWord, patientWord, authorWord, directiveWord, defaultWord, closeWord, refusedWord, cardRefusedWord, requesterRefusedWord}
-use Rattle.program_access.specs.declared.Requester.{Requester}
-
--- the request without its minute that the requester makes for record i
-abbrev pub onRecord : Requester → ℕ → Query
-onRecord w i =
-    record {
-      person = w .person;
-      role = w .role;
-      origin = w .origin;
-      «record» = i;
-      purpose = w .purpose;
-    }
+use Rattle.program_access.specs.Words.{recordWord, colonWord, permitWord, denyWord, basisWord, openWord, patientWord, authorWord, directiveWord, defaultWord, closeWord, refusedWord, changesWord, cardRefusedWord, draftRefusedWord, namedWord, requesterRefusedWord}
 
 -- 1 permit, 0 deny
 abbrev pub effectText : ℕ → List ℕ
@@ -47,38 +37,87 @@ unfoldable pub answerText : Answer → List ℕ
 answerText (done vs) = decisionText vs
 answerText (refused n vs) = refusedWord ++ decimal n
 
--- the line of record i: what `decide` answers the requester there
-unfoldable pub recordText : Model → Requester → ℕ → List ℕ
-recordText m w i =
-    recordWord ++ decimal i ++ colonWord ++ answerText (decided m (onRecord w i)) ++ (lineEnd ∷ [])
+-- the decision after a change of effect; a new basis alone is none
+unfoldable pub changeText : Model → Model → Requester → ℕ → List ℕ
+changeText m after w i =
+    pick (decisionChanges m after w i) (changesWord ++ answerText (decided after (queryOn w i))) []
+
+-- the line of record i: the decision at m, and what it changes to at `after`
+unfoldable pub recordText : Model → Model → Requester → ℕ → List ℕ
+recordText m after w i =
+    recordWord
+    ++ decimal i
+    ++ colonWord
+    ++ answerText (decided m (queryOn w i))
+    ++ changeText m after w i
+    ++ (lineEnd ∷ [])
 
 -- the lines of the records below n, in their order
-unfoldable pub recordTexts : Model → Requester → ℕ → List ℕ
-recordTexts m w zero = []
-recordTexts m w (suc n) = recordTexts m w n ++ recordText m w n
-
--- the requester's part of question 17
-abbrev pub isRequester : Model → Requester → Bool
-isRequester m w = requesterInRange (m .register) (w .role) (w .origin) (w .purpose)
+unfoldable pub recordTexts : Model → Model → Requester → ℕ → List ℕ
+recordTexts m after w zero = []
+recordTexts m after w (suc n) = recordTexts m after w n ++ recordText m after w n
 
 -- a refusal: its words and the number of the question
 abbrev pub refusalText : List ℕ → ℕ → List ℕ
 refusalText words n = words ++ decimal n ++ (lineEnd ∷ [])
 
 -- the table of all records; where the requester is out of range, 17 alone
-abbrev pub requesterText : Model → Requester → List ℕ
-requesterText m w =
-    pick (isRequester m w) (recordTexts m w (length (m .register .records))) (refusalText requesterRefusedWord 17)
+abbrev pub requesterText : Model → Model → Requester → List ℕ
+requesterText m after w =
+    pick (requesterPasses (m .register) w) (recordTexts m after w (length (m .register .records)))
+    (refusalText requesterRefusedWord 17)
+
+-- what a refusal adds to its number: 13 names a directive
+abbrev pub added : Answer → List ℕ
+added (done vs) = []
+added (refused n vs) = vs
+
+abbrev pub addedText : List ℕ → List ℕ
+addedText [] = []
+addedText (n ∷ ns) = namedWord ++ decimal n
+
+-- `draft refused: question 13, directive 7`
+abbrev pub draftRefusalText : Answer → List ℕ
+draftRefusalText a = draftRefusedWord ++ decimal (refusal a) ++ addedText (added a) ++ (lineEnd ∷ [])
+
+-- a commit would take the draft
+abbrev pub isTaken : Model → List ℕ → Bool
+isTaken m s = eqb (refusal (committed m s .answer)) 0
+
+-- the table before and after a commit of the draft; where the draft would be refused, its refusal alone
+abbrev pub draftText : Model → List ℕ → Requester → List ℕ
+draftText m s w =
+    pick (isTaken m s) (requesterText m (committed m s .model) w) (draftRefusalText (committed m s .answer))
+
+-- the bytes of a draft, or no draft
+pub data Drafted : Type 0 where
+  none : Drafted
+  given : List ℕ → Drafted
+
+abbrev pub draftedBy : Bool → List ℕ → Drafted
+draftedBy true s = given s
+draftedBy false s = none
+
+-- without a draft nothing changes
+abbrev pub ledgerText : Model → Drafted → Requester → List ℕ
+ledgerText m none w = requesterText m m w
+ledgerText m (given s) w = draftText m s w
+
+-- there is no draft, or a commit would take it
+abbrev pub draftTaken : Model → Drafted → Bool
+draftTaken m none = true
+draftTaken m (given s) = isTaken m s
 
 abbrev pub isRead : List ℕ → Bool
 isRead card = eqb (refusal (reading card .answer)) 0
 
--- what `access` prints for a card and a requester: where the card is refused, the number of the question that it misses alone
-abbrev pub accessText : List ℕ → Requester → List ℕ
-accessText card w =
-    pick (isRead card) (requesterText (reading card .model) w)
+-- what `access` prints for a card, a draft and a requester: where the card is refused, the number of the question that it misses alone
+abbrev pub accessText : List ℕ → Drafted → Requester → List ℕ
+accessText card d w =
+    pick (isRead card) (ledgerText (reading card .model) d w)
     (refusalText cardRefusedWord (refusal (reading card .answer)))
 
 -- there is a table
-abbrev pub isTable : List ℕ → Requester → Bool
-isTable card w = isRead card && isRequester (reading card .model) w
+abbrev pub isTable : List ℕ → Drafted → Requester → Bool
+isTable card d w =
+    isRead card && draftTaken (reading card .model) d && requesterPasses (reading card .model .register) w

@@ -50,9 +50,21 @@ closeWord = 41 ∷ []
 unfoldable pub refusedWord : List ℕ
 refusedWord = 114 ∷ 101 ∷ 102 ∷ 117 ∷ 115 ∷ 101 ∷ 100 ∷ 44 ∷ 32 ∷ 113 ∷ 117 ∷ 101 ∷ 115 ∷ 116 ∷ 105 ∷ 111 ∷ 110 ∷ 32 ∷ []
 
+-- `, changes to `
+unfoldable pub changesWord : List ℕ
+changesWord = 44 ∷ 32 ∷ 99 ∷ 104 ∷ 97 ∷ 110 ∷ 103 ∷ 101 ∷ 115 ∷ 32 ∷ 116 ∷ 111 ∷ 32 ∷ []
+
 -- `card refused: question `
 unfoldable pub cardRefusedWord : List ℕ
 cardRefusedWord = 99 ∷ 97 ∷ 114 ∷ 100 ∷ 32 ∷ 114 ∷ 101 ∷ 102 ∷ 117 ∷ 115 ∷ 101 ∷ 100 ∷ 58 ∷ 32 ∷ 113 ∷ 117 ∷ 101 ∷ 115 ∷ 116 ∷ 105 ∷ 111 ∷ 110 ∷ 32 ∷ []
+
+-- `draft refused: question `
+unfoldable pub draftRefusedWord : List ℕ
+draftRefusedWord = 100 ∷ 114 ∷ 97 ∷ 102 ∷ 116 ∷ 32 ∷ 114 ∷ 101 ∷ 102 ∷ 117 ∷ 115 ∷ 101 ∷ 100 ∷ 58 ∷ 32 ∷ 113 ∷ 117 ∷ 101 ∷ 115 ∷ 116 ∷ 105 ∷ 111 ∷ 110 ∷ 32 ∷ []
+
+-- `, directive `
+unfoldable pub namedWord : List ℕ
+namedWord = 44 ∷ 32 ∷ 100 ∷ 105 ∷ 114 ∷ 101 ∷ 99 ∷ 116 ∷ 105 ∷ 118 ∷ 101 ∷ 32 ∷ []
 
 -- `requester refused: question `
 unfoldable pub requesterRefusedWord : List ℕ

@@ -1,28 +1,32 @@
-// The program `access`: a card and a requester give a line for each record, permit or deny and why, at the card's clock.
+// The program `access`: a card and a requester give a line for each record, permit or deny and why, at the card's clock. With a draft the
+// line also says what its commit would change.
 use arguments::Parsed;
+use arguments::hexadecimal::Decoded;
+use directive::Requester;
 use libc::STDERR_FILENO;
 use streams::Filled;
 ghost use mathlib.Core.Path.{_≡_};
 ghost use Prim.Native.Nat.{_≤_};
 ghost use lib.ListN.{length};
 ghost use Rattle.arguments.specs.Decimal.{Bounded};
-ghost use Rattle.program_access.specs.Arguments.{askedBy, statusFor};
+ghost use Rattle.program_access.specs.Arguments.{askedBy, withDraft, DraftAtMost, statusFor};
+ghost use Rattle.program_access.specs.Table.{draftedBy};
 ghost use Rattle.program_access.specs.Promises.{Shows};
 
+mod draft;
 mod table;
 mod words;
 
-// Who asks, from where and what for.
-pub struct Requester {
-    pub person: u16,
-    pub role: u16,
-    pub origin: u8,
-    pub purpose: u8,
+// Who asks, whether with a draft, and how many bytes that has in the buffer for it.
+pub struct Inquiry {
+    pub requester: Requester,
+    pub has_draft: bool,
+    pub size: usize,
 }
 
 // What the arguments say.
 pub enum Asked {
-    By(Requester),
+    By(Inquiry),
     Unusable,
 }
 
@@ -32,10 +36,10 @@ pub struct Shown {
     pub is_table: bool,
 }
 
-// Who may read which record of the card, at the start of the buffer.
-fn access(card: &[u8], w: Requester, out: &mut [u8]) -> Shown
-    requires { ⌜ 10240 ≤ length (now out) ⌝ }
-    ensures { λ r. ⌜ Shows (now (card .entry)) w r (now (out .exit)) ⌝ }
+// Who may read which record of the card, and what the draft would change, if there is one; at the start of the buffer.
+fn access(card: &[u8], has_draft: bool, draft: &[u8], w: Requester, out: &mut [u8]) -> Shown
+    requires { ⌜ 18432 ≤ length (now out) ⌝ }
+    ensures { λ r. ⌜ Shows (now (card .entry)) (draftedBy «has_draft» (now (draft .entry))) w r (now (out .exit)) ⌝ }
 {
     let read = card_reading::read::read(card);
     let line = card_reading::check::line_of(read);
@@ -46,17 +50,10 @@ fn access(card: &[u8], w: Requester, out: &mut [u8]) -> Shown
         };
     }
     let l = read.ledger;
-    let g = ledger::views::register_of(l);
-    if !ledger::decision::requester_in_range(g, w.role, w.origin, w.purpose) {
-        return Shown {
-            size: words::put_refusal(out, b"requester refused: question ", 17),
-            is_table: false,
-        };
+    if has_draft {
+        return draft::put_draft(l, draft, w, out);
     }
-    Shown {
-        size: table::put_table(l, w, out),
-        is_table: true,
-    }
+    table::put_requester(l, l, sets::record_set::empty(), w, out)
 }
 
 // The requester that four numbers name.
@@ -76,24 +73,57 @@ fn requester_of(person: Parsed, role: Parsed, origin: Parsed, purpose: Parsed) -
     let Parsed::Number(u) = purpose else {
         return Asked::Unusable;
     };
-    Asked::By(Requester {
+    let w = Requester {
         person: p as u16,
         role: r as u16,
         origin: o as u8,
         purpose: u as u8,
+    };
+    Asked::By(Inquiry {
+        requester: w,
+        has_draft: false,
+        size: 0,
     })
 }
 
-// The requester that the four arguments name: person, role, origin and purpose.
-fn from_arguments() -> Asked {
-    if os::arg_count() != 5 {
+// The same with a draft of so many bytes, if it is one.
+fn with_draft(asked: Asked, draft: Decoded) -> Asked
+    ensures { λ r. ⌜ r ≡ withDraft asked draft ⌝ }
+{
+    let Asked::By(a) = asked else {
+        return Asked::Unusable;
+    };
+    let Decoded::Bytes(n) = draft else {
+        return Asked::Unusable;
+    };
+    let w = a.requester;
+    Asked::By(Inquiry {
+        requester: w,
+        has_draft: true,
+        size: n,
+    })
+}
+
+// What the arguments say: person, role, origin and purpose, and the draft where there is a fifth one.
+fn from_arguments(draft: &mut [u8]) -> Asked
+    ensures { λ r. ⌜ DraftAtMost (length (now (draft .entry))) r ⌝ }
+{
+    let count = os::arg_count();
+    if count < 5 {
+        return Asked::Unusable;
+    }
+    if count > 6 {
         return Asked::Unusable;
     }
     let person = arguments::argument(1, 65535);
     let role = arguments::argument(2, 65535);
     let origin = arguments::argument(3, 255);
     let purpose = arguments::argument(4, 255);
-    requester_of(person, role, origin, purpose)
+    let asked = requester_of(person, role, origin, purpose);
+    if count == 5 {
+        return asked;
+    }
+    with_draft(asked, arguments::hexadecimal::bytes_argument(5, draft))
 }
 
 // The exit status for what is printed.
@@ -103,16 +133,17 @@ fn status_of(is_table: bool) -> i32
     if is_table { 0 } else { 1 }
 }
 
-// The whole program, which answers its exit status: 0 for a table, 1 where the card or the requester is refused, 2 where the
-// arguments cannot be used or a read or the write failed. The card is the first 65,535 bytes of standard input; no longer one is
+// The whole program, which answers its exit status: 0 for a table, 1 where the card, the draft or the requester is refused, 2 where
+// the arguments cannot be used or a read or the write failed. The card is the first 65,535 bytes of standard input; no longer one is
 // accepted. Its clock is the minute of every request.
 #[no_mangle]
 pub extern "C" fn access_main() -> i32 {
-    let asked = from_arguments();
-    let Asked::By(w) = asked else {
+    let mut draft = [0u8; 512];
+    let asked = from_arguments(&mut draft);
+    let Asked::By(a) = asked else {
         io::write_all(
             STDERR_FILENO,
-            b"usage: access PERSON ROLE ORIGIN PURPOSE < CARD\n",
+            b"usage: access PERSON ROLE ORIGIN PURPOSE [DRAFT] < CARD\n",
         );
         return streams::FAILED;
     };
@@ -121,9 +152,11 @@ pub extern "C" fn access_main() -> i32 {
     let Filled::Bytes(n) = filled else {
         return streams::FAILED;
     };
-    let mut out = [0u8; 10240];
-    let shown = access(&input[..n], w, &mut out);
-    let size = shown.size;
-    let written = streams::put(&out[..size]);
+    let w = a.requester;
+    let size = a.size;
+    let mut out = [0u8; 18432];
+    let shown = access(&input[..n], a.has_draft, &draft[..size], w, &mut out);
+    let end = shown.size;
+    let written = streams::put(&out[..end]);
     streams::status(written, status_of(shown.is_table))
 }

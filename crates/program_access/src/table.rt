@@ -1,37 +1,94 @@
-// The table of all records.
-use crate::Requester;
+// The table of all records on two ledgers: the one at hand, and the one after a draft's commit.
+use crate::Shown;
 use directive::Query;
+use directive::Requester;
 use ledger::Ledger;
+use sets::record_set::RecordSet;
 ghost use mathlib.Core.Path.{_≡_};
-ghost use Prim.Native.Nat.{_≤_};
+ghost use mathlib.Core.Bool.{true};
+ghost use mathlib.Core.List.{_++_, []};
+ghost use Prim.Native.Nat.{_+_, _<_, _≤_};
 ghost use lib.ListN.{length};
+ghost use Rattle.sets.specs.Quantifiers.{pick};
+ghost use Rattle.sets.specs.RecordSets.{contains};
+ghost use Rattle.ledger_model.specs.Calls.{decided};
+ghost use Rattle.ledger_model.specs.Preview.{decisionChanges, requesterPasses};
 ghost use Rattle.ledger.specs.State.{view};
 ghost use Rattle.ledger.specs.Invariant.{Invariant};
-ghost use Rattle.text.specs.Puts.{StartsWith};
-ghost use Rattle.program_access.specs.Table.{onRecord, recordTexts};
+ghost use Rattle.text.specs.Puts.{Puts, StartsWith};
+ghost use Rattle.program_access.specs.Words.{changesWord};
+ghost use Rattle.program_access.specs.Table.{answerText, recordText, recordTexts, requesterText};
+ghost use Rattle.program_access.specs.Promises.{HasChanges, Prints};
 
-fn on_record(w: Requester, i: u8) -> Query
-    ensures { λ q. ⌜ q ≡ onRecord w i ⌝ }
+// The decision on the ledger after the change, where there is one.
+fn put_change(out: &mut [u8], at: usize, is_change: bool, after: Ledger, q: Query) -> usize
+    requires { ⌜ Invariant after × (at + 61 ≤ length (now out)) ⌝ }
+    ensures { λ r. ⌜ Puts (now (out .entry)) at (pick «is_change» (changesWord ++ answerText (decided (view after) q)) []) (now (out .exit)) r ⌝ }
+    ensures { λ r. ⌜ r ≤ at + 61 ⌝ }
 {
-    Query {
-        person: w.person,
-        role: w.role,
-        origin: w.origin,
-        record: i,
-        purpose: w.purpose,
+    if !is_change {
+        return at;
     }
+    let answer = text::copy::put_bytes(out, at, b", changes to ");
+    crate::words::put_answer(out, answer, ledger::decision::decide(after, q))
 }
 
-// A line a record, at the start of the buffer; the length of all. A line has room in 80 bytes.
-pub fn put_table(l: Ledger, w: Requester, out: &mut [u8]) -> usize
-    requires { ⌜ Invariant l × (10240 ≤ length (now out)) ⌝ }
-    ensures { λ r. ⌜ StartsWith (now (out .exit)) r (recordTexts (view l) w (length (view l .register .records))) ⌝ }
+// The line of record i, from place `at` on; the place after it.
+fn put_record(
+    out: &mut [u8],
+    at: usize,
+    l: Ledger,
+    after: Ledger,
+    records: RecordSet,
+    w: Requester,
+    i: usize,
+) -> usize
+    requires { ⌜ Invariant l × Invariant after × (contains records i ≡ decisionChanges (view l) (view after) w i) ⌝ }
+    requires { ⌜ (i < 128) × (at + 144 ≤ length (now out)) ⌝ }
+    ensures { λ r. ⌜ Puts (now (out .entry)) at (recordText (view l) (view after) w i) (now (out .exit)) r ⌝ }
+    ensures { λ r. ⌜ r ≤ at + 144 ⌝ }
+{
+    let q = directive::query_on(w, i as u8);
+    let change = crate::words::put_decision(out, at, i, ledger::decision::decide(l, q));
+    let is_change = sets::record_set::member(records, i);
+    let end = put_change(out, change, is_change, after, q);
+    text::copy::put_bytes(out, end, b"\n")
+}
+
+// A line a record, at the start of the buffer; the length of all. A line has room in 144 bytes.
+fn put_table(l: Ledger, after: Ledger, records: RecordSet, w: Requester, out: &mut [u8]) -> usize
+    requires { ⌜ Invariant l × Invariant after × HasChanges l after w records × (18432 ≤ length (now out)) ⌝ }
+    ensures { λ r. ⌜ StartsWith (now (out .exit)) r (recordTexts (view l) (view after) w (length (view l .register .records))) ⌝ }
 {
     let count = ledger::views::record_count(l);
     let mut at: usize = 0;
     for i in 0..count {
-        let a = ledger::decision::decide(l, on_record(w, i as u8));
-        at = crate::words::put_record(out, at, i, a);
+        at = put_record(out, at, l, after, records, w, i);
     }
     at
+}
+
+// The table for the requester, where that passes question 17.
+pub fn put_requester(
+    l: Ledger,
+    after: Ledger,
+    records: RecordSet,
+    w: Requester,
+    out: &mut [u8],
+) -> Shown
+    requires { ⌜ Invariant l × Invariant after × (18432 ≤ length (now out)) ⌝ }
+    requires { ⌜ (requesterPasses (view l .register) w ≡ true → HasChanges l after w records) ⌝ }
+    ensures { λ r. ⌜ Prints (requesterText (view l) (view after) w) (requesterPasses (view l .register) w) r (now (out .exit)) ⌝ }
+{
+    let g = ledger::views::register_of(l);
+    if !ledger::decision::requester_in_range(g, w.role, w.origin, w.purpose) {
+        return Shown {
+            size: crate::words::put_refusal(out, b"requester refused: question ", 17),
+            is_table: false,
+        };
+    }
+    Shown {
+        size: put_table(l, after, records, w, out),
+        is_table: true,
+    }
 }

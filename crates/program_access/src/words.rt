@@ -1,25 +1,24 @@
-// A line of the table in words.
+// A decision, and a refusal, in words.
 use ledger::answer::DecideAnswer;
 ghost use mathlib.Core.List.{_∷_, _++_, []};
 ghost use Prim.Native.Nat.{_+_, _≤_};
 ghost use lib.ListN.{length};
 ghost use Rattle.sets.specs.Quantifiers.{oneIf};
 ghost use Rattle.ledger.specs.Answer.{decideAnswer};
-ghost use Rattle.text.specs.Text.{decimal, lineEnd};
+ghost use Rattle.text.specs.Text.{decimal};
 ghost use Rattle.text.specs.Puts.{Puts, StartsWith};
-ghost use Rattle.program_access.specs.Words.{recordWord, colonWord, basisWord, openWord, directiveWord};
+ghost use Rattle.program_access.specs.Words.{recordWord, colonWord};
 ghost use Rattle.program_access.specs.Table.{effectText, decisionText, answerText, refusalText};
 
-// A directive's effect and basis, up to its number.
 fn put_effect(out: &mut [u8], at: usize, permit: bool) -> usize
-    requires { ⌜ at + 27 ≤ length (now out) ⌝ }
-    ensures { λ r. ⌜ Puts (now (out .entry)) at (effectText (oneIf permit) ++ basisWord ++ decimal 3 ++ openWord ++ directiveWord) (now (out .exit)) r ⌝ }
-    ensures { λ r. ⌜ r ≤ at + 27 ⌝ }
+    requires { ⌜ at + 6 ≤ length (now out) ⌝ }
+    ensures { λ r. ⌜ Puts (now (out .entry)) at (effectText (oneIf permit)) (now (out .exit)) r ⌝ }
+    ensures { λ r. ⌜ r ≤ at + 6 ⌝ }
 {
     if permit {
-        return text::copy::put_bytes(out, at, b"permit, basis 3 (directive ");
+        return text::copy::put_bytes(out, at, b"permit");
     }
-    text::copy::put_bytes(out, at, b"deny, basis 3 (directive ")
+    text::copy::put_bytes(out, at, b"deny")
 }
 
 fn put_directive(out: &mut [u8], at: usize, permit: bool, number: u16) -> usize
@@ -27,7 +26,8 @@ fn put_directive(out: &mut [u8], at: usize, permit: bool, number: u16) -> usize
     ensures { λ r. ⌜ Puts (now (out .entry)) at (decisionText (oneIf permit ∷ 3 ∷ number ∷ [])) (now (out .exit)) r ⌝ }
     ensures { λ r. ⌜ r ≤ at + 48 ⌝ }
 {
-    let named = put_effect(out, at, permit);
+    let basis = put_effect(out, at, permit);
+    let named = text::copy::put_bytes(out, basis, b", basis 3 (directive ");
     let end = text::decimal::put_decimal(out, named, number as u64);
     text::copy::put_bytes(out, end, b")")
 }
@@ -37,13 +37,11 @@ fn put_default(out: &mut [u8], at: usize, permit: bool) -> usize
     ensures { λ r. ⌜ Puts (now (out .entry)) at (decisionText (oneIf permit ∷ 4 ∷ [])) (now (out .exit)) r ⌝ }
     ensures { λ r. ⌜ r ≤ at + 48 ⌝ }
 {
-    if permit {
-        return text::copy::put_bytes(out, at, b"permit, basis 4 (default)");
-    }
-    text::copy::put_bytes(out, at, b"deny, basis 4 (default)")
+    let basis = put_effect(out, at, permit);
+    text::copy::put_bytes(out, basis, b", basis 4 (default)")
 }
 
-fn put_answer(out: &mut [u8], at: usize, a: DecideAnswer) -> usize
+pub fn put_answer(out: &mut [u8], at: usize, a: DecideAnswer) -> usize
     requires { ⌜ at + 48 ≤ length (now out) ⌝ }
     ensures { λ r. ⌜ Puts (now (out .entry)) at (answerText (decideAnswer a)) (now (out .exit)) r ⌝ }
     ensures { λ r. ⌜ r ≤ at + 48 ⌝ }
@@ -57,17 +55,16 @@ fn put_answer(out: &mut [u8], at: usize, a: DecideAnswer) -> usize
     }
 }
 
-// The line of record i, from place `at` on; the place after it.
-pub fn put_record(out: &mut [u8], at: usize, i: usize, a: DecideAnswer) -> usize
-    requires { ⌜ at + 80 ≤ length (now out) ⌝ }
-    ensures { λ r. ⌜ Puts (now (out .entry)) at (recordWord ++ decimal i ++ colonWord ++ answerText (decideAnswer a) ++ (lineEnd ∷ [])) (now (out .exit)) r ⌝ }
-    ensures { λ r. ⌜ r ≤ at + 80 ⌝ }
+// The decision on record i, from place `at` on; the place after it.
+pub fn put_decision(out: &mut [u8], at: usize, i: usize, a: DecideAnswer) -> usize
+    requires { ⌜ at + 77 ≤ length (now out) ⌝ }
+    ensures { λ r. ⌜ Puts (now (out .entry)) at (recordWord ++ decimal i ++ colonWord ++ answerText (decideAnswer a)) (now (out .exit)) r ⌝ }
+    ensures { λ r. ⌜ r ≤ at + 77 ⌝ }
 {
     let number = text::copy::put_bytes(out, at, b"record ");
     let colon = text::decimal::put_decimal(out, number, i as u64);
     let answer = text::copy::put_bytes(out, colon, b": ");
-    let end = put_answer(out, answer, a);
-    text::copy::put_bytes(out, end, b"\n")
+    put_answer(out, answer, a)
 }
 
 // A refusal at the start of the buffer: its words and the number of the question; its length.

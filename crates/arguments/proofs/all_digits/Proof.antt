@@ -7,7 +7,7 @@ use borrow.Author.Tests.{not-true, not-false}
 use lib.ListN.{length, drop}
 use Rattle.sets.specs.Quantifiers.{allIn}
 use Rattle.arguments.specs.Decimal.{isDigit}
-use Rattle.arguments.proofs.DecimalLaws.{all-here, all-end}
+use Rattle.arguments.proofs.TextLaws.{all-here, all-end}
 use Rattle.arguments.proofs.all_digits.Statement.{statement}
 use Rattle.arguments.proofs.all_digits.Tie as tie
 
@@ -30,7 +30,7 @@ returns : tie.Need-returns Inv-loop μ-loop
 returns c =
     let loop = c .before .before .before .before in
     let text = loop .before .before .args .text .now in
-    let here = all-here text (loop .loop .i) (search needs) in
+    let here = all-here isDigit text (loop .loop .i) (search needs) in
     rw (← loop .loop .inv .1, here, ← c .before .is-digit .ensures, not-true (c .before .is-digit .result) (c .if1 .taken))
 
 add-i : tie.Need-add-i Inv-loop μ-loop
@@ -43,14 +43,14 @@ loop-again : tie.Need-loop-again Inv-loop μ-loop
 loop-again c =
     let loop = c .before .before .before .before in
     let text = loop .before .before .args .text .now in
-    let here = all-here text (loop .loop .i) (search needs) in
+    let here = all-here isDigit text (loop .loop .i) (search needs) in
     let rest = rw (← c .before .is-digit .ensures, not-false (c .before .is-digit .result) (c .if1 .left)) at here in
     (search needs, sym rest ∙ loop .loop .inv .1)
 
 returns-2 : tie.Need-returns-2 Inv-loop μ-loop
 returns-2 c =
     let text = c .before .before .before .args .text .now in
-    sym (all-end text (c .before .loop .i) (omega arith)) ∙ c .before .loop .inv .1
+    sym (all-end isDigit text (c .before .loop .i) (omega arith)) ∙ c .before .loop .inv .1
 
 pub all-digits-spec : {M : Type 1} → statement M
 all-digits-spec =

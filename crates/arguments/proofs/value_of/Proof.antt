@@ -11,7 +11,8 @@ use lib.ListN.{length, drop, getD}
 use Rattle.sets.specs.Quantifiers.{allIn}
 use Rattle.sets.proofs.Quantifiers.{and-both}
 use Rattle.arguments.specs.Decimal.{isDigit, valueFrom, value}
-use Rattle.arguments.proofs.DecimalLaws.{all-here, value-here, value-end}
+use Rattle.arguments.proofs.TextLaws.{all-here}
+use Rattle.arguments.proofs.DecimalLaws.{value-here, value-end}
 use Rattle.arguments.proofs.value_of.Statement.{statement}
 use Rattle.arguments.proofs.value_of.Tie as tie
 
@@ -42,7 +43,7 @@ digit-of-requires : tie.Need-digit-of-requires Inv-loop μ-loop
 digit-of-requires c κs =
     let loop = c .before .before in
     let digits = loop .before .before .args .digits .now in
-    let here = all-here digits (loop .loop .i) (search needs) in
+    let here = all-here isDigit digits (loop .loop .i) (search needs) in
     and-both (isDigit (getD digits (loop .loop .i) 0)) _ (sym here ∙ loop .loop .inv .2) .0
 
 add-n : tie.Need-add-n Inv-loop μ-loop
@@ -59,7 +60,7 @@ loop-again c =
     let loop = c .before .before .before in
     let i = loop .loop .i in
     let digits = loop .before .before .args .digits .now in
-    let here = all-here digits i (search needs) in
+    let here = all-here isDigit digits i (search needs) in
     let rest = and-both (isDigit (getD digits i 0)) _ (sym here ∙ loop .loop .inv .2) .1 in
     let next = sym (value-here digits i (search needs) (loop .loop .n)) ∙ loop .loop .inv .3 in
     (search needs, rw add-one (omega (arith, pow-suc 10 i)), rest, rw (c .digit-of .ensures .0) next)

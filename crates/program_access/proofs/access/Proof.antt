@@ -1,14 +1,12 @@
--- `access`: a refused card, a requester out of range, or the table.
-use mathlib.Core.Path.{_≡_, sym, ap, subst, _∙_}
-use mathlib.Core.Bool.{true, false}
+-- `access`: a refused card, or what the ledger shows.
+use mathlib.Core.Path.{_≡_, sym, ap, _∙_}
+use mathlib.Core.Bool.{true}
 use borrow.Author.Needs.{needs}
-use borrow.Author.Tests.{not-true, not-false, eq-eqb, ne-eqb}
-use lib.ListN.{length}
-use Rattle.ledger_model.specs.Model.{Model}
-use Rattle.text.specs.Puts.{StartsWith}
+use borrow.Author.Tests.{eq-eqb, ne-eqb}
 use Rattle.ledger_model.specs.Answer.{refusal}
-use Rattle.program_access.specs.Words.{cardRefusedWord, requesterRefusedWord}
-use Rattle.program_access.specs.Table.{isRequester, recordTexts}
+use Rattle.program_access.specs.Words.{cardRefusedWord}
+use Rattle.program_access.specs.Table.{none, given, isRead}
+use Rattle.program_access.proofs.TableLaws.{card-read, unchanged}
 use Rattle.program_access.proofs.access.Statement.{statement}
 use Rattle.program_access.proofs.access.Tie as tie
 
@@ -31,58 +29,47 @@ returns : tie.Need-returns
 unfolding cardRefusedWord
 returns c =
     let tested = c .before .before .before .before .before in
-    let missed = tested .before .before .line-of .ensures .0 ∙ ap refusal (tested .before .before .before .read .ensures .answer) in
+    let line = tested .before .before in
+    let missed = line .line-of .ensures .0 ∙ ap refusal (line .before .read .ensures .answer) in
     let some = ne-eqb _ 0 (λ e. tested .if1 .taken (missed ∙ e)) in
     record { text = rw some (rw missed at (c .before .before .put-refusal .ensures)); table = rw some }
 
-register-of-requires : tie.Need-register-of-requires
-register-of-requires c κs = search needs
-
-requester-in-range-requires : tie.Need-requester-in-range-requires
-requester-in-range-requires c κs = search needs
-
-slice-aggregate-put-refusal-2 : tie.Need-slice-aggregate-put-refusal-2
-slice-aggregate-put-refusal-2 c = search needs
-
-put-refusal-requires-2 : tie.Need-put-refusal-requires-2
-put-refusal-requires-2 c κs = search needs
+put-draft-requires : tie.Need-put-draft-requires
+put-draft-requires c κs = search needs
 
 same-length-2 : tie.Need-same-length-2
 same-length-2 c = search needs
 
-returns-2 : tie.Need-returns-2
-unfolding requesterRefusedWord
-returns-2 c =
-    let tested = c .before .before .before .before .before in
-    let read = tested .before .before .before .before .before .before .before .read .ensures in
-    let missed = tested .before .before .before .before .before .before .line-of .ensures .0 ∙ ap refusal (read .answer) in
-    let none = eq-eqb _ 0 (sym missed ∙ tested .before .before .before .before .if1 .left) in
-    let w = tested .before .before .before .before .before .before .before .before .before .before .args .w in
-    let out =
-    subst (λ (m : Model). isRequester m w ≡ false) (read .ledger)
-    (sym (rw (tested .before .before .register-of .ensures) at (tested .before .requester-in-range .ensures)) ∙ not-true _ (tested .if2 .taken)) in
-    record { text = rw (none, out) (c .before .before .put-refusal2 .ensures); table = rw (none, out) }
+read : (c : tie.Else1) → isRead (c .before .before .before .before .before .before .before .args .card .now) ≡ true
+read c =
+    let line = c .before .before in
+    let missed = line .line-of .ensures .0 ∙ ap refusal (line .before .read .ensures .answer) in
+    eq-eqb _ 0 (sym missed ∙ c .if1 .left)
 
-put-table-requires : tie.Need-put-table-requires
-put-table-requires c κs = (c .before .before .before .before .before .before .before .before .read .ensures .invariant, search needs)
+returns-2 : tie.Need-returns-2
+returns-2 c =
+    let put = c .before .before in
+    let tested = put .before .before .before .before in
+    let start = tested .before .before .before .before .before .before .before in
+    rw (put .before .before .if2 .taken) (card-read (start .args .card .now) (given (start .args .draft .now)) (start .args .w) (read tested) (tested .before .before .before .read .ensures .ledger) (put .put-draft .ensures))
+
+empty-requires : tie.Need-empty-requires
+empty-requires c κs = search needs
+
+put-requester-requires : tie.Need-put-requester-requires
+put-requester-requires c κs =
+    let read = c .before .before .before .before .before .before .before .read .ensures in
+    ((read .invariant, read .invariant, search needs), λ asked i h. c .before .empty .ensures i ∙ sym (unchanged _ _ i))
 
 same-length-3 : tie.Need-same-length-3
 same-length-3 c = search needs
 
 returns-3 : tie.Need-returns-3
 returns-3 c =
-    let tested = c .before .before .before .before in
-    let read = tested .before .before .before .before .before .before .before .read .ensures in
-    let missed = tested .before .before .before .before .before .before .line-of .ensures .0 ∙ ap refusal (read .answer) in
-    let none = eq-eqb _ 0 (sym missed ∙ tested .before .before .before .before .if1 .left) in
-    let w = tested .before .before .before .before .before .before .before .before .before .before .args .w in
-    let within =
-    subst (λ (m : Model). isRequester m w ≡ true) (read .ledger)
-    (sym (rw (tested .before .before .register-of .ensures) at (tested .before .requester-in-range .ensures)) ∙ not-false _ (tested .if2 .left)) in
-    let put = c .before .before .put-table in
-    let text =
-    subst (λ (m : Model). StartsWith (put .last .1 .1 .0) (put .result) (recordTexts m w (length (m .register .records)))) (read .ledger) (put .ensures) in
-    record { text = rw (none, within) text; table = rw (none, within) }
+    let put = c .before .before in
+    let tested = put .before .before .before .before .before in
+    let start = tested .before .before .before .before .before .before .before in
+    rw (put .before .before .before .if2 .left) (card-read (start .args .card .now) none (start .args .w) (read tested) (tested .before .before .before .read .ensures .ledger) (put .put-requester .ensures))
 
 pub access-spec : {M : Type 1} → statement M
 access-spec =
@@ -94,12 +81,10 @@ access-spec =
     put-refusal-requires
     same-length
     returns
-    register-of-requires
-    requester-in-range-requires
-    slice-aggregate-put-refusal-2
-    put-refusal-requires-2
+    put-draft-requires
     same-length-2
     returns-2
-    put-table-requires
+    empty-requires
+    put-requester-requires
     same-length-3
     returns-3)

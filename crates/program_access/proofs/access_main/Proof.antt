@@ -1,7 +1,12 @@
--- `access_main`: what was read has its place in the buffer.
+-- `access_main`: what was read, and the draft, have their places in their buffers.
+use mathlib.Core.Path.{sym}
 use borrow.Author.Needs.{needs}
+use lib.Seq.{length-take-le}
 use Rattle.program_access.proofs.access_main.Statement.{statement}
 use Rattle.program_access.proofs.access_main.Tie as tie
+
+slice-aggregate-from-arguments : tie.Need-slice-aggregate-from-arguments
+slice-aggregate-from-arguments c = search needs
 
 from-arguments-requires : tie.Need-from-arguments-requires
 from-arguments-requires c κs = search needs
@@ -37,13 +42,19 @@ returns-2 : tie.Need-returns-2
 returns-2 c = search needs
 
 array-share-prefix-input : tie.Need-array-share-prefix-input
-array-share-prefix-input c = (rw (c .before .filled .given .1) at (c .before .before .before .before .fill .ensures)) .0
+array-share-prefix-input c = (rw (c .before .before .filled .given .1) at (c .before .before .before .before .before .fill .ensures)) .0
 
 slice-aggregate-access : tie.Need-slice-aggregate-access
-slice-aggregate-access c = (rw (c .before .before .filled .given .1) at (c .before .before .before .before .before .fill .ensures)) .1
+slice-aggregate-access c = (rw (c .before .before .before .filled .given .1) at (c .before .before .before .before .before .before .fill .ensures)) .1
+
+array-share-prefix-draft : tie.Need-array-share-prefix-draft
+array-share-prefix-draft c = search (needs, rw (c .before .before .before .before .before .before .before .before .before .asked .given .1) at (c .before .before .before .before .before .before .before .before .before .before .before .before .from-arguments .ensures))
 
 slice-aggregate-access-2 : tie.Need-slice-aggregate-access-2
-slice-aggregate-access-2 c = search needs
+slice-aggregate-access-2 c = sym (length-take-le _ _ (search (needs, rw (c .before .before .before .before .before .before .before .before .before .before .asked .given .1) at (c .before .before .before .before .before .before .before .before .before .before .before .before .before .from-arguments .ensures))))
+
+slice-aggregate-access-3 : tie.Need-slice-aggregate-access-3
+slice-aggregate-access-3 c = search needs
 
 access-requires : tie.Need-access-requires
 access-requires c κs = search needs
@@ -70,6 +81,7 @@ pub access-main-spec : {M : Type 1} → statement M
 access-main-spec =
     tie.close
     (tie.spec
+    slice-aggregate-from-arguments
     from-arguments-requires
     enum-known-asked
     enum-told
@@ -83,7 +95,9 @@ access-main-spec =
     returns-2
     array-share-prefix-input
     slice-aggregate-access
+    array-share-prefix-draft
     slice-aggregate-access-2
+    slice-aggregate-access-3
     access-requires
     array-share-prefix-out
     slice-aggregate-put

@@ -39,23 +39,23 @@ enum-told-4 c = search needs
 returns-4 : tie.Need-returns-4
 returns-4 c = search needs
 
-cast-t9 : tie.Need-cast-t9
-cast-t9 c =
-    let bounded = rw (c .before .before .before .before .before .before .before .before .before .before .person .given .1) at (c .before .before .before .before .before .before .before .before .before .before .before .before .pre .0) in
-    search (needs, bounded)
-
 cast-t10 : tie.Need-cast-t10
 cast-t10 c =
-    let bounded = rw (c .before .before .before .before .before .before .before .role .given .1) at (c .before .before .before .before .before .before .before .before .before .before .before .before .pre .1) in
+    let bounded = rw (c .before .before .before .before .before .before .before .before .before .before .person .given .1) at (c .before .before .before .before .before .before .before .before .before .before .before .before .pre .0) in
     search (needs, bounded)
 
 cast-t11 : tie.Need-cast-t11
 cast-t11 c =
-    let bounded = rw (c .before .before .before .before .origin .given .1) at (c .before .before .before .before .before .before .before .before .before .before .before .before .pre .2) in
+    let bounded = rw (c .before .before .before .before .before .before .before .role .given .1) at (c .before .before .before .before .before .before .before .before .before .before .before .before .pre .1) in
     search (needs, bounded)
 
 cast-t12 : tie.Need-cast-t12
 cast-t12 c =
+    let bounded = rw (c .before .before .before .before .origin .given .1) at (c .before .before .before .before .before .before .before .before .before .before .before .before .pre .2) in
+    search (needs, bounded)
+
+cast-t13 : tie.Need-cast-t13
+cast-t13 c =
     let bounded = rw (c .before .purpose .given .1) at (c .before .before .before .before .before .before .before .before .before .before .before .before .pre .3) in
     search (needs, bounded)
 
@@ -79,8 +79,8 @@ requester-of-spec =
     enum-known-purpose
     enum-told-4
     returns-4
-    cast-t9
     cast-t10
     cast-t11
     cast-t12
+    cast-t13
     returns-5)

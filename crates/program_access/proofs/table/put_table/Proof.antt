@@ -8,19 +8,19 @@ use lib.ListN.{length}
 use Rattle.ledger.specs.State.{view}
 use Rattle.text.specs.Puts.{Puts}
 use Rattle.text.proofs.PutLaws.{puts-none, puts-more, begins}
-use Rattle.program_access.specs.Table.{recordText, recordTexts}
+use Rattle.program_access.specs.Table.{recordTexts}
 use Rattle.program_access.proofs.table.put_table.Statement.{statement}
 use Rattle.program_access.proofs.table.put_table.Tie as tie
 
 abbrev Inv-loop : tie.InvT-loop
-Inv-loop l w out₀ count at₀ i₀ out at i =
+Inv-loop l after records w out₀ count at₀ i₀ out at i =
     (i ≤ count)
-    × (at ≤ 80 * i)
+    × (at ≤ 144 * i)
     × (length out ≡ length out₀)
-    × Puts out₀ 0 (recordTexts (view l) w i) out at
+    × Puts out₀ 0 (recordTexts (view l) (view after) w i) out at
 
 abbrev μ-loop : tie.MeasureT-loop
-μ-loop l w out₀ count at₀ i₀ out at i = count - i
+μ-loop l after records w out₀ count at₀ i₀ out at i = count - i
 
 record-count-requires : tie.Need-record-count-requires Inv-loop μ-loop
 record-count-requires c κs = search needs
@@ -29,17 +29,11 @@ loop-holds : tie.Need-loop-holds Inv-loop μ-loop
 unfolding recordTexts
 loop-holds c = (search needs, search needs, refl, puts-none _ _)
 
-cast-on-record : tie.Need-cast-on-record Inv-loop μ-loop
-cast-on-record c = search needs
-
-on-record-requires : tie.Need-on-record-requires Inv-loop μ-loop
-on-record-requires c κs = search needs
-
-decide-requires : tie.Need-decide-requires Inv-loop μ-loop
-decide-requires c κs = search needs
-
 put-record-requires : tie.Need-put-record-requires Inv-loop μ-loop
-put-record-requires c κs = search needs
+put-record-requires c κs =
+    let start = c .before .before .before .before .before in
+    let counted = c .before .before .before .record-count .ensures in
+    ((start .pre .0, start .pre .1, start .pre .2 _ (omega (arith, counted))), (search needs, search needs))
 
 add-i : tie.Need-add-i Inv-loop μ-loop
 add-i c = search needs
@@ -48,18 +42,14 @@ loop-less : tie.Need-loop-less Inv-loop μ-loop
 loop-less c = search needs
 
 loop-again : tie.Need-loop-again Inv-loop μ-loop
-unfolding recordTexts recordText
+unfolding recordTexts
 loop-again c =
     let put = c .before .before in
-    let turn = put .before .before .before .before in
-    let start = turn .before .before .before .before in
-    let i = turn .before .loop .i in
-    let asked = put .before .before .before .on-record .ensures in
-    let answered = put .before .before .decide .ensures (start .pre .0) in (
+    let inv = put .before .before .before .loop .inv in (
       search needs,
-      omega (arith, turn .before .loop .inv .1, put .put-record .ensures .1),
+      omega (arith, inv .1, put .put-record .ensures .1),
       search needs,
-      rw (add-one i) (puts-more (turn .before .loop .inv .3) (rw (answered, asked) at (put .put-record .ensures .0))),
+      rw add-one (puts-more (inv .3) (put .put-record .ensures .0)),
     )
 
 same-length : tie.Need-same-length Inv-loop μ-loop
@@ -81,9 +71,6 @@ put-table-spec =
     μ-loop
     record-count-requires
     loop-holds
-    cast-on-record
-    on-record-requires
-    decide-requires
     put-record-requires
     add-i
     loop-less

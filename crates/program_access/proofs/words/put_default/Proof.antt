@@ -1,11 +1,15 @@
--- `words::put_default`: the words by their letters.
+-- `words::put_default`: the effect, and the words by their letters.
+use mathlib.Core.List.{append-assoc}
 use native.Mathlib.Omega.{arith}
 use borrow.Author.Needs.{needs}
-use Rattle.text.specs.Text.{decimalBy, numbersText, nextText}
-use Rattle.program_access.specs.Words.{permitWord, denyWord, basisWord, openWord, patientWord, authorWord, directiveWord, defaultWord, closeWord, refusedWord}
-use Rattle.program_access.specs.Table.{answerText}
+use Rattle.text.specs.Text.{decimalBy}
+use Rattle.text.proofs.PutLaws.{puts-more}
+use Rattle.program_access.specs.Words.{basisWord, openWord, defaultWord, closeWord}
 use Rattle.program_access.proofs.words.put_default.Statement.{statement}
 use Rattle.program_access.proofs.words.put_default.Tie as tie
+
+put-effect-requires : tie.Need-put-effect-requires
+put-effect-requires c κs = search needs
 
 slice-aggregate-put-bytes : tie.Need-slice-aggregate-put-bytes
 slice-aggregate-put-bytes c = search needs
@@ -17,31 +21,14 @@ same-length : tie.Need-same-length
 same-length c = search needs
 
 returns : tie.Need-returns
-unfolding permitWord denyWord basisWord openWord defaultWord patientWord authorWord directiveWord closeWord refusedWord decimalBy numbersText nextText answerText
-returns c = (rw (c .before .before .before .before .before .if1 .taken) (c .before .before .put-bytes .ensures), omega (arith, c .before .before .put-bytes .ensures .place))
-
-slice-aggregate-put-bytes-2 : tie.Need-slice-aggregate-put-bytes-2
-slice-aggregate-put-bytes-2 c = search needs
-
-put-bytes-requires-2 : tie.Need-put-bytes-requires-2
-put-bytes-requires-2 c κs = search needs
-
-same-length-2 : tie.Need-same-length-2
-same-length-2 c = search needs
-
-returns-2 : tie.Need-returns-2
-unfolding permitWord denyWord basisWord openWord defaultWord patientWord authorWord directiveWord closeWord refusedWord decimalBy numbersText nextText answerText
-returns-2 c = (rw (c .before .before .before .before .before .if1 .left) (c .before .before .put-bytes2 .ensures), omega (arith, c .before .before .put-bytes2 .ensures .place))
+unfolding basisWord openWord defaultWord closeWord decimalBy
+returns c =
+    let told = c .before .before in
+    let effect = told .before .before .before .before .before in
+    let all = puts-more (effect .put-effect .ensures .0) (told .put-bytes .ensures) in
+    (simp append-assoc all, omega (arith, told .put-bytes .ensures .place, effect .put-effect .ensures .1))
 
 pub put-default-spec : {M : Type 1} → statement M
 put-default-spec =
     tie.close
-    (tie.spec
-    slice-aggregate-put-bytes
-    put-bytes-requires
-    same-length
-    returns
-    slice-aggregate-put-bytes-2
-    put-bytes-requires-2
-    same-length-2
-    returns-2)
+    (tie.spec put-effect-requires slice-aggregate-put-bytes put-bytes-requires same-length returns)

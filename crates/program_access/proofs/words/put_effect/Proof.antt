@@ -1,9 +1,7 @@
 -- `words::put_effect`: the words by their letters.
 use native.Mathlib.Omega.{arith}
 use borrow.Author.Needs.{needs}
-use Rattle.text.specs.Text.{decimalBy, numbersText, nextText}
-use Rattle.program_access.specs.Words.{permitWord, denyWord, basisWord, openWord, patientWord, authorWord, directiveWord, defaultWord, closeWord, refusedWord}
-use Rattle.program_access.specs.Table.{answerText}
+use Rattle.program_access.specs.Words.{permitWord, denyWord}
 use Rattle.program_access.proofs.words.put_effect.Statement.{statement}
 use Rattle.program_access.proofs.words.put_effect.Tie as tie
 
@@ -17,7 +15,7 @@ same-length : tie.Need-same-length
 same-length c = search needs
 
 returns : tie.Need-returns
-unfolding permitWord denyWord basisWord openWord defaultWord patientWord authorWord directiveWord closeWord refusedWord decimalBy numbersText nextText answerText
+unfolding permitWord denyWord
 returns c = (rw (c .before .before .before .before .before .if1 .taken) (c .before .before .put-bytes .ensures), omega (arith, c .before .before .put-bytes .ensures .place))
 
 slice-aggregate-put-bytes-2 : tie.Need-slice-aggregate-put-bytes-2
@@ -30,7 +28,7 @@ same-length-2 : tie.Need-same-length-2
 same-length-2 c = search needs
 
 returns-2 : tie.Need-returns-2
-unfolding permitWord denyWord basisWord openWord defaultWord patientWord authorWord directiveWord closeWord refusedWord decimalBy numbersText nextText answerText
+unfolding permitWord denyWord
 returns-2 c = (rw (c .before .before .before .before .before .if1 .left) (c .before .before .put-bytes2 .ensures), omega (arith, c .before .before .put-bytes2 .ensures .place))
 
 pub put-effect-spec : {M : Type 1} → statement M
