@@ -1,99 +1,132 @@
-//! The program `access`: what a requester may read, record by record.
+//! The program `access`: what a requester may read, record by record, and what
+//! a draft would change.
 
 use std::fmt;
 use std::io::{self, Read};
 
 use crate::answer::Answer;
+use crate::bytes::from_hex;
 use crate::card;
 use crate::cardcheck::take_card;
 use crate::describe::effect;
 use crate::ledger::{Basis, Decision, Ledger};
+use crate::preview::Preview;
 use crate::refusal::Refusal;
-use crate::request::Query;
+use crate::request::Requester;
 
-/// Who asks: a request without its record and its minute.
-#[derive(Clone, Copy, Debug, PartialEq, Eq)]
-pub struct Requester {
-    pub person: u16,
-    pub role: u16,
-    pub origin: u8,
-    pub purpose: u8,
+/// How many hexadecimal digits of a draft are taken.
+pub const MOST_DRAFT_DIGITS: usize = 1_024;
+
+/// What the program is asked, as its arguments have it: who asks, and the
+/// digits of a draft or what stands in their place.
+#[derive(Clone, Debug, PartialEq, Eq)]
+pub struct Asking {
+    pub requester: Requester,
+    pub draft: Option<String>,
 }
 
-impl Requester {
-    /// What they ask on this record.
-    pub fn query(self, record: u8) -> Query {
-        Query {
-            person: self.person,
-            role: self.role,
-            origin: self.origin,
-            record,
-            purpose: self.purpose,
-        }
+impl Asking {
+    pub fn arguments(&self) -> Vec<String> {
+        let Requester {
+            person,
+            role,
+            origin,
+            purpose,
+        } = self.requester;
+        let mut arguments = vec![
+            person.to_string(),
+            role.to_string(),
+            origin.to_string(),
+            purpose.to_string(),
+        ];
+        arguments.extend(self.draft.clone());
+        arguments
     }
+}
 
-    /// The four arguments of the program.
-    pub fn arguments(self) -> [String; 4] {
-        [
-            self.person.to_string(),
-            self.role.to_string(),
-            self.origin.to_string(),
-            self.purpose.to_string(),
-        ]
-    }
+/// The draft of an argument: an even number of hexadecimal digits, at most
+/// 1,024, upper or lower case; nothing where it is anything else.
+pub fn draft_of(argument: &str) -> Option<Vec<u8>> {
+    let short = argument.len() <= MOST_DRAFT_DIGITS;
+    from_hex(argument).filter(|_| short)
 }
 
 /// What `access` answers.
 #[derive(Clone, Debug, PartialEq, Eq)]
 pub enum Access {
+    /// The arguments cannot be used, and nothing is printed.
+    Unusable,
     CardRefused(Refusal),
+    /// By question 6 to 14.
+    DraftRefused(Refusal),
     /// By question 17, without its record.
     RequesterRefused(Refusal),
     /// A decision for each record, in order.
     Table(Vec<Decision>),
+    /// The same, and with the draft.
+    Preview(Preview),
 }
 
-/// The answer to this requester and the card at the start of the input.
-pub fn access(input: impl Read, requester: Requester) -> io::Result<Access> {
+/// The answer to these arguments and the card at the start of the input.
+pub fn access(input: impl Read, asking: &Asking) -> io::Result<Access> {
+    let draft = match &asking.draft {
+        None => None,
+        Some(argument) => match draft_of(argument) {
+            Some(draft) => Some(draft),
+            None => return Ok(Access::Unusable),
+        },
+    };
     let card = take_card(input)?;
     Ok(match card::read(&card) {
-        Ok(ledger) => Access::of(&ledger, requester),
+        Ok(ledger) => Access::of(&ledger, asking.requester, draft.as_deref()),
         Err(refusal) => Access::CardRefused(refusal),
     })
 }
 
 impl Access {
-    /// What decide answers on each record at the clock. All records are
-    /// there, so one that is refused is refused for its requester.
-    pub fn of(ledger: &Ledger, requester: Requester) -> Access {
-        let records = ledger.register().numbered_records();
-        let decisions: Result<Vec<Decision>, Refusal> = records
-            .map(|(record, _)| ledger.decide(requester.query(record)))
-            .collect();
-        match decisions {
-            Ok(table) => Access::Table(table),
-            Err(refusal) => Access::RequesterRefused(refusal),
-        }
+    /// What is decided on each record at the clock, and what it would be with
+    /// the draft.
+    pub fn of(ledger: &Ledger, requester: Requester, draft: Option<&[u8]>) -> Access {
+        let answer = match draft {
+            None => ledger.decide_every(requester).map(Access::Table),
+            Some(draft) => ledger.preview(requester, draft).map(Access::Preview),
+        };
+        answer.unwrap_or_else(|refusal| match refusal {
+            Refusal::QueryRange => Access::RequesterRefused(refusal),
+            _ => Access::DraftRefused(refusal),
+        })
     }
 
-    /// The status of the program: whether something is refused.
+    /// The status of the program: whether something is refused, or cannot be
+    /// used.
     pub fn status(&self) -> u8 {
         match self {
-            Access::Table(_) => 0,
-            Access::CardRefused(_) | Access::RequesterRefused(_) => 1,
+            Access::Table(_) | Access::Preview(_) => 0,
+            Access::CardRefused(_) | Access::DraftRefused(_) | Access::RequesterRefused(_) => 1,
+            Access::Unusable => 2,
         }
     }
 
     /// What each line answers.
     pub fn answers(&self) -> Vec<Answer> {
         match self {
+            Access::Unusable => Vec::new(),
             Access::CardRefused(refusal) => vec![Answer::Card(Err(*refusal))],
+            Access::DraftRefused(refusal) => vec![Answer::Preview(Err(*refusal))],
             Access::RequesterRefused(refusal) => vec![Answer::Decide(Err(*refusal))],
             Access::Table(table) => {
                 let decisions = table.iter().copied();
                 decisions
                     .map(|decision| Answer::Decide(Ok(decision)))
                     .collect()
+            }
+            Access::Preview(preview) => {
+                let one = |(_, before, after)| Preview {
+                    before: vec![before],
+                    after: vec![after],
+                };
+                let lines = preview.decisions().map(one);
+                lines.map(|line| Answer::Preview(Ok(line))).collect()
             }
         }
     }
@@ -103,8 +136,15 @@ impl Access {
 impl fmt::Display for Access {
     fn fmt(&self, f: &mut fmt::Formatter<'_>) -> fmt::Result {
         match self {
+            Access::Unusable => Ok(()),
             Access::CardRefused(refusal) => {
                 writeln!(f, "card refused: question {}", refusal.number())
+            }
+            Access::DraftRefused(Refusal::Conflict(named)) => {
+                writeln!(f, "draft refused: question 13, directive {named}")
+            }
+            Access::DraftRefused(refusal) => {
+                writeln!(f, "draft refused: question {}", refusal.number())
             }
             Access::RequesterRefused(refusal) => {
                 writeln!(f, "requester refused: question {}", refusal.number())
@@ -112,6 +152,16 @@ impl fmt::Display for Access {
             Access::Table(table) => {
                 for (record, decision) in table.iter().enumerate() {
                     writeln!(f, "record {record}: {}", in_table(*decision))?;
+                }
+                Ok(())
+            }
+            Access::Preview(preview) => {
+                for (record, before, after) in preview.decisions() {
+                    write!(f, "record {record}: {}", in_table(before))?;
+                    if before.effect != after.effect {
+                        write!(f, ", changes to {}", in_table(after))?;
+                    }
+                    writeln!(f)?;
                 }
                 Ok(())
             }

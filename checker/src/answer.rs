@@ -4,8 +4,10 @@ use std::fmt;
 
 use crate::bytes::hex;
 use crate::directive::Effect;
-use crate::ledger::{Basis, Brief, Decision, Dropped, Ledger};
+use crate::ledger::{Basis, Decision, Dropped, Ledger};
+use crate::preview::Preview;
 use crate::refusal::Refusal;
+use crate::register::RecordWords;
 
 /// What `cardcheck` tells of an accepted card.
 #[derive(Clone, Copy, Debug, PartialEq, Eq)]
@@ -33,8 +35,9 @@ pub enum Answer {
     Advance(Result<Dropped, Refusal>),
     Issue(Result<(), Refusal>),
     Decide(Result<Decision, Refusal>),
-    Brief(Result<Brief, Refusal>),
+    Brief(Result<RecordWords, Refusal>),
     Write(Result<Vec<u8>, Refusal>),
+    Preview(Result<Preview, Refusal>),
     Malformed,
 }
 
@@ -51,10 +54,8 @@ impl fmt::Display for Answer {
                 write!(f, "0 {} {}", dropped.directives, dropped.tokens)
             }
             Answer::Decide(Ok(decision)) => decide_line(f, decision),
-            Answer::Brief(Ok(brief)) => {
-                let [low, high] = brief.words;
-                write!(f, "0 {low} {high} {}", brief.count)
-            }
+            Answer::Brief(Ok(brief)) => words_line(f, *brief),
+            Answer::Preview(Ok(preview)) => words_line(f, preview.words()),
             Answer::Write(Ok(card)) => write!(f, "0 {} {}", card.len(), hex(card)),
             Answer::Commit(Err(refusal))
             | Answer::Revoke(Err(refusal))
@@ -62,10 +63,19 @@ impl fmt::Display for Answer {
             | Answer::Issue(Err(refusal))
             | Answer::Decide(Err(refusal))
             | Answer::Brief(Err(refusal))
-            | Answer::Write(Err(refusal)) => write!(f, "{refusal}"),
+            | Answer::Write(Err(refusal))
+            | Answer::Preview(Err(refusal)) => write!(f, "{refusal}"),
             Answer::Malformed => write!(f, "malformed"),
         }
     }
+}
+
+fn words_line(f: &mut fmt::Formatter<'_>, records: RecordWords) -> fmt::Result {
+    let RecordWords {
+        words: [low, high],
+        count,
+    } = records;
+    write!(f, "0 {low} {high} {count}")
 }
 
 fn decide_line(f: &mut fmt::Formatter<'_>, decision: &Decision) -> fmt::Result {

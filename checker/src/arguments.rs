@@ -50,7 +50,8 @@ pub enum Parsed {
 }
 
 /// Reads the arguments: each option at most once, its value after it or after
-/// an equals sign, and these operands. After `--` come operands alone.
+/// an equals sign, and these operands. One in brackets may be left out, one
+/// that ends in dots repeats. After `--` come operands alone.
 pub fn parse(
     arguments: &[OsString],
     choices: &'static [Choice],
@@ -70,8 +71,13 @@ pub fn parse(
             rest.next();
         }
     }
-    let (given, wanted) = (parsed.operands.len(), operands.len());
-    match (parsed.operands.get(wanted), operands.get(given)) {
+    let most = match operands.last() {
+        Some(last) if last.ends_with("..") => usize::MAX,
+        _ => operands.len(),
+    };
+    let missing = operands.get(parsed.operands.len());
+    let missing = missing.filter(|name| !name.starts_with('['));
+    match (parsed.operands.get(most), missing) {
         (Some(more), _) => Err(wrong(format!(
             "'{}' is one argument too many",
             more.display()
@@ -141,6 +147,15 @@ impl Arguments {
                 .get(place)
                 .map_or("".as_ref(), OsString::as_os_str),
         )
+    }
+
+    pub fn operands(&self) -> &[OsString] {
+        &self.operands
+    }
+
+    /// The operand at this place that may be left out.
+    pub fn optional_operand(&self, place: usize) -> Option<&OsStr> {
+        self.operands.get(place).map(OsString::as_os_str)
     }
 
     /// The operand at this place, a number from 0 to this one.

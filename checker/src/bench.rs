@@ -17,7 +17,7 @@ use crate::random::Random;
 use crate::refusal::Refusal;
 use crate::register::{Record, MAX_RECORDS, MAX_ROLES};
 use crate::replay::{encode, Call, Replay};
-use crate::request::Query;
+use crate::request::{Query, Requester};
 
 const DENY: u8 = 0;
 const PERMIT: u8 = 1;
@@ -154,6 +154,8 @@ pub fn measures() -> Vec<Measure> {
         advance(),
         issue_brief(),
         write(),
+        preview(),
+        preview_none(),
         read(),
     ]
 }
@@ -625,6 +627,73 @@ fn write() -> Measure {
         answers
             .iter()
             .all(|answer| matches!(answer, Answer::Write(Ok(written)) if *written == card))
+    })
+}
+
+/// A full register and 31 permits of role 0 with all its roles, in turn for all
+/// purposes on the records of even type, and for all but purpose 1 on those of
+/// odd type.
+fn preview_scene() -> Scene {
+    let even = Fields { pt: 0x55, ..ALL };
+    let odd = Fields {
+        pt: 0xAA,
+        purposes: ALL_PURPOSES & !0x0002,
+        ..ALL
+    };
+    let directives = [even, odd].into_iter().cycle().zip(2000..);
+    let directives = directives.map(|(directive, until)| Fields { until, ..directive });
+    Scene {
+        roles: role_chain(),
+        records: record_chain(),
+        directives: numbered(directives.take(MAX_ACTIVE.saturating_sub(1))),
+        calls: Vec::new(),
+    }
+}
+
+/// The preview of this draft for a stranger in the last role, for purpose 1.
+fn preview_of(draft: Fields) -> [Vec<Call>; 1] {
+    let requester = Requester {
+        person: 600,
+        role: 15,
+        origin: 3,
+        purpose: 1,
+    };
+    let draft = Fields {
+        number: 999,
+        ..draft
+    }
+    .encode()
+    .to_vec();
+    [vec![Call::Preview { requester, draft }]]
+}
+
+/// Whether every preview shows so many changes.
+fn all_change(answers: &[Answer], count: u32) -> bool {
+    let shows = |answer: &Answer| matches!(answer, Answer::Preview(Ok(shown)) if shown.words().count == count);
+    answers.iter().all(shows)
+}
+
+/// A permit of everything, which selects the 127 records below the root and
+/// matches the requester. The default denies them the 64 records of odd type.
+/// On record 1 no active directive is for purpose 1, so question 14 is soon
+/// answered.
+fn preview() -> Measure {
+    let operation = preview_of(ALL);
+    preview_scene().measure("preview", (20, 1000), &operation, |answers| {
+        all_change(answers, 64)
+    })
+}
+
+/// The same for another person, so that the draft matches nothing that the
+/// requester asks.
+fn preview_none() -> Measure {
+    let operation = preview_of(Fields {
+        kind: PERSON,
+        subject: 601,
+        ..ALL
+    });
+    preview_scene().measure("preview-none", (20, 0), &operation, |answers| {
+        all_change(answers, 0)
     })
 }
 

@@ -32,6 +32,11 @@ impl<'a> Bytes<'a> {
         Some(taken)
     }
 
+    /// All that is left, which then is nothing.
+    pub fn take_rest(&mut self) -> &'a [u8] {
+        std::mem::take(&mut self.rest)
+    }
+
     fn array<const N: usize>(&mut self) -> Option<[u8; N]> {
         let (taken, rest) = self.rest.split_first_chunk::<N>()?;
         self.rest = rest;
@@ -89,6 +94,16 @@ const HEX: [[u8; 2]; 256] = {
     }
     pairs
 };
+
+/// The bytes of an even number of hexadecimal digits, upper or lower case.
+pub fn from_hex(text: &str) -> Option<Vec<u8>> {
+    let digits: Option<Vec<u32>> = text.chars().map(|digit| digit.to_digit(16)).collect();
+    let pair = |pair: &[u32]| match pair {
+        [high, low] => u8::try_from(high << 4 | low).ok(),
+        _ => None,
+    };
+    digits?.chunks(2).map(pair).collect()
+}
 
 /// The bytes in lowercase hexadecimal.
 pub fn hex(bytes: &[u8]) -> String {

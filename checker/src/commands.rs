@@ -7,9 +7,10 @@ use std::path::Path;
 use std::process::ExitCode;
 use std::time::Duration;
 
-use checker::access::{access, Requester};
+use checker::access::{access, draft_of, Asking, MOST_DRAFT_DIGITS};
 use checker::answer::Answer;
 use checker::bench::measures;
+use checker::bytes::hex;
 use checker::cardcheck::cardcheck;
 use checker::compare::{answers, Program, Programs, Session, Settings};
 use checker::conformance::write_cases;
@@ -18,8 +19,9 @@ use checker::explain::Explanations;
 use checker::files::{self, Stream};
 use checker::generate::inputs;
 use checker::replay::Replay;
+use checker::request::Requester;
 use checker::show::show;
-use checker::text_form::{assemble, disassemble, unmet, Assembled, Kind};
+use checker::text_form::{assemble, disassemble, draft, unmet, Assembled, Kind};
 
 use crate::arguments::{wrong, Arguments, Choice, Failure};
 
@@ -92,15 +94,17 @@ call, or 'malformed' where it breaks its format.",
     },
     Command {
         name: "access",
-        usage: "PERSON ROLE ORIGIN PURPOSE < CARD",
-        summary: "tell what a requester may read",
+        usage: "PERSON ROLE ORIGIN PURPOSE [DRAFT] < CARD",
+        summary: "tell what a requester may read, and what a draft would change",
         help: "Takes the first 65,535 bytes of standard input as a card and prints a line for each
 of its records: what is decided there for this requester at the card's clock, and on
-which basis. The status is 1, with the question that refuses in one line, if the card
-is refused, or if the register does not have the role, the origin is above 15 or the
-purpose above 10. PERSON and ROLE are at most 65535, ORIGIN and PURPOSE at most 255;
-each has at most five digits.",
-        operands: &["PERSON", "ROLE", "ORIGIN", "PURPOSE"],
+which basis. With DRAFT, the line of a record whose decision the draft would change
+says to what. The status is 1, with the question that refuses in one line, if the card
+is refused, if a commit of the draft would be, or if the register does not have the
+role, the origin is above 15 or the purpose above 10. PERSON and ROLE are at most 65535,
+ORIGIN and PURPOSE at most 255; each has at most five digits. DRAFT is the bytes of the
+draft in hexadecimal, at most 1024 digits; 'checker draft' makes them.",
+        operands: &["PERSON", "ROLE", "ORIGIN", "PURPOSE", "[DRAFT]"],
         choices: &[],
         run: run_access,
     },
@@ -151,6 +155,17 @@ what it is, .card or .replay.",
         run: run_disassemble,
     },
     Command {
+        name: "draft",
+        usage: "WORDS..",
+        summary: "make the hexadecimal digits of a draft",
+        help: "WORDS are those of a commit in the text form that TEXT_FORM.md describes, such as
+2 deny role 1 record 0 reach 2 from 1000 until 2000. Prints the bytes of the draft in
+lowercase hexadecimal, as 'checker access' takes them.",
+        operands: &["WORDS.."],
+        choices: &[],
+        run: run_draft,
+    },
+    Command {
         name: "generate",
         usage: "[--seed S] [--cards N] [--replays N] [--out DIR]",
         summary: "make random cards and replays and count their answers",
@@ -178,8 +193,9 @@ each run. At a difference it prints the input and the lines, explains them, look
 for a smaller input that shows the same, stores both, and ends with status 1.
 
 With --access each card is also asked about for a requester, who depends on the seed,
-the index and the card. The four arguments come after those of PROGRAM; the report has
-them. The status is compared too, 0 or 1. In a smaller card the requester is the same.
+the index and the card, and in about half of the runs with a draft. These arguments come
+after those of PROGRAM; the report has them. The status is compared too. In a smaller
+card the arguments are the same.
 
 A PROGRAM is run as it stands if there is such a file. Otherwise it is split at
 blanks into a program and its arguments, where '..', \"..\" and \\ quote as in a
@@ -260,9 +276,25 @@ fn run_access(arguments: &Arguments, output: &mut Output) -> Result<ExitCode, Fa
         origin: arguments.operand_number(2, "ORIGIN", u8::MAX)?,
         purpose: arguments.operand_number(3, "PURPOSE", u8::MAX)?,
     };
-    let access = access(files::standard_input()?, requester)?;
+    let draft = arguments.optional_operand(4).map(draft_argument);
+    let asking = Asking {
+        requester,
+        draft: draft.transpose()?,
+    };
+    let access = access(files::standard_input()?, &asking)?;
     write!(output, "{access}")?;
     Ok(ExitCode::from(access.status()))
+}
+
+/// The digits of a draft.
+fn draft_argument(argument: &OsStr) -> Result<String, Failure> {
+    let text = argument.to_str().filter(|text| draft_of(text).is_some());
+    text.map(str::to_string).ok_or_else(|| {
+        wrong(format!(
+            "DRAFT: '{}' is not an even number of hexadecimal digits, at most {MOST_DRAFT_DIGITS}",
+            argument.display()
+        ))
+    })
 }
 
 fn run_show(arguments: &Arguments, output: &mut Output) -> Result<ExitCode, Failure> {
@@ -334,6 +366,16 @@ fn run_disassemble(arguments: &Arguments, output: &mut Output) -> Result<ExitCod
         }
     };
     write!(output, "{}", disassemble(kind, &files::read(path)?))?;
+    Ok(ExitCode::SUCCESS)
+}
+
+fn run_draft(arguments: &Arguments, output: &mut Output) -> Result<ExitCode, Failure> {
+    let words = arguments.operands().join(OsStr::new(" "));
+    let words = words
+        .to_str()
+        .ok_or_else(|| wrong("the words are not UTF-8"))?;
+    let draft = draft(words).map_err(|error| wrong(error.message))?;
+    writeln!(output, "{}", hex(&draft))?;
     Ok(ExitCode::SUCCESS)
 }
 

@@ -6,6 +6,7 @@ use std::fmt;
 use crate::answer::Answer;
 use crate::directive::Effect;
 use crate::ledger::Decision;
+use crate::preview::{Outcome, Preview};
 use crate::refusal::{Refusal, LAST_QUESTION};
 
 /// The questions that a card can miss; a call can miss those from 6 on.
@@ -17,8 +18,18 @@ pub(crate) const BASES: [u8; 4] = [1, 2, 3, 4];
 pub(crate) const DENYING_BASES: [u8; 2] = [3, 4];
 
 const CARD: &str = "card";
-const CALLS: [&str; 8] = [
-    CARD, "commit", "revoke", "advance", "issue", "decide", "brief", "write",
+const PREVIEW: &str = "preview";
+const CALLS: [&str; 9] = [
+    CARD, "commit", "revoke", "advance", "issue", "decide", "brief", "write", PREVIEW,
+];
+
+/// The questions that a preview can miss.
+const PREVIEW_QUESTIONS: [u8; 10] = [6, 7, 8, 9, 10, 11, 12, 13, 14, 17];
+const OUTCOMES: [Outcome; 4] = [
+    Outcome::Same,
+    Outcome::BasisAlone,
+    Outcome::ToDeny,
+    Outcome::ToPermit,
 ];
 
 /// Which inputs are asked for.
@@ -40,8 +51,10 @@ impl Asked {
 pub enum Kind {
     /// A card refused, by the question's number.
     CardRefusal(u8),
-    /// A call refused, by the question's number.
+    /// A call refused, by the question's number; previews apart.
     CallRefusal(u8),
+    PreviewRefusal(u8),
+    Preview(Outcome),
     /// A decision, by the number of its basis.
     Permit(u8),
     Deny(u8),
@@ -67,6 +80,7 @@ impl Kind {
             Answer::Decide(answer) => Kind::of_call("decide", answer),
             Answer::Brief(answer) => Kind::of_call("brief", answer),
             Answer::Write(answer) => Kind::of_call("write", answer),
+            Answer::Preview(answer) => Kind::of_preview(answer),
             Answer::Malformed => Kind::Malformed,
         }
     }
@@ -75,6 +89,13 @@ impl Kind {
         match answer {
             Ok(_) => Kind::Accepted(call),
             Err(refusal) => Kind::CallRefusal(refusal.number()),
+        }
+    }
+
+    fn of_preview(answer: &Result<Preview, Refusal>) -> Kind {
+        match answer {
+            Ok(preview) => Kind::Preview(preview.outcome()),
+            Err(refusal) => Kind::PreviewRefusal(refusal.number()),
         }
     }
 
@@ -92,6 +113,8 @@ impl fmt::Display for Kind {
         match self {
             Kind::CardRefusal(number) => write!(f, "refusal {number} of a card"),
             Kind::CallRefusal(number) => write!(f, "refusal {number} of a call"),
+            Kind::PreviewRefusal(number) => write!(f, "refusal {number} of a preview"),
+            Kind::Preview(outcome) => write!(f, "preview {outcome}"),
             Kind::Permit(basis) => write!(f, "permit with basis {basis}"),
             Kind::Deny(basis) => write!(f, "deny with basis {basis}"),
             Kind::Accepted(call) => write!(f, "accepted {call}"),
@@ -145,18 +168,28 @@ impl Counts {
             }
             Answer::Brief(answer) => self.count_call("brief", answer),
             Answer::Write(answer) => self.count_call("write", answer),
+            Answer::Preview(answer) => {
+                self.count(match answer {
+                    Ok(_) => Kind::Accepted(PREVIEW),
+                    Err(_) => Kind::Refused(PREVIEW),
+                });
+                self.count(Kind::of_preview(answer));
+            }
             Answer::Malformed => self.count(Kind::Malformed),
         }
     }
 
     /// Of the inputs asked for, every refusal that a card or a call can get,
-    /// and every basis with every effect that it can have.
+    /// every basis with every effect that it can have, and every outcome of a
+    /// preview.
     pub fn wanted(asked: Asked) -> impl Iterator<Item = Kind> {
         let cards = CARD_QUESTIONS.into_iter().map(Kind::CardRefusal);
         let calls = (FIRST_CALL_QUESTION..=LAST_QUESTION).map(Kind::CallRefusal);
         let permits = BASES.into_iter().map(Kind::Permit);
         let denies = DENYING_BASES.into_iter().map(Kind::Deny);
-        let replays = calls.chain(permits).chain(denies);
+        let refused = PREVIEW_QUESTIONS.into_iter().map(Kind::PreviewRefusal);
+        let previews = refused.chain(OUTCOMES.into_iter().map(Kind::Preview));
+        let replays = calls.chain(permits).chain(denies).chain(previews);
         let cards = cards.filter(move |_| asked.cards);
         cards.chain(replays.filter(move |_| asked.replays))
     }
@@ -173,7 +206,7 @@ impl Counts {
         self.by_kind.keys().any(|kind| match kind {
             Kind::Accepted(call) | Kind::Refused(call) => *call != CARD,
             Kind::CardRefusal(_) => false,
-            Kind::CallRefusal(_) | Kind::Permit(_) | Kind::Deny(_) | Kind::Malformed => true,
+            _ => true,
         })
     }
 
@@ -191,13 +224,17 @@ impl Counts {
 impl fmt::Display for Counts {
     fn fmt(&self, f: &mut fmt::Formatter<'_>) -> fmt::Result {
         let calls = self.has_calls();
-        let of_calls = if calls { "of calls" } else { "" };
-        row(f, ["refusal", "of cards", of_calls])?;
+        let titles = ["refusal", "of cards", "of calls", "of previews"];
+        let shown = if calls { titles.len() } else { 2 };
+        row(f, titles.iter().take(shown))?;
         for number in 1..=LAST_QUESTION {
-            let cards = self.cell(Kind::CardRefusal(number));
-            let of_calls = self.cell(Kind::CallRefusal(number));
-            let of_calls = if calls { &of_calls } else { "" };
-            row(f, [&number.to_string(), &cards, of_calls])?;
+            let cells = [
+                number.to_string(),
+                self.cell(Kind::CardRefusal(number)),
+                self.cell(Kind::CallRefusal(number)),
+                self.cell(Kind::PreviewRefusal(number)),
+            ];
+            row(f, cells.iter().take(shown))?;
         }
         if calls {
             row(f, ["basis", "permit", "deny"])?;
@@ -214,13 +251,27 @@ impl fmt::Display for Counts {
             row(f, [call, &accepted, &refused])?;
         }
         if calls {
+            for outcome in OUTCOMES {
+                let kind = Kind::Preview(outcome);
+                writeln!(f, "previews {outcome} {}", self.of(kind))?;
+            }
             writeln!(f, "malformed replays {}", self.of(Kind::Malformed))?;
         }
         Ok(())
     }
 }
 
-pub(crate) fn row(f: &mut fmt::Formatter<'_>, [what, one, other]: [&str; 3]) -> fmt::Result {
-    let row = format!("{what:>8} {one:>10} {other:>10}");
-    writeln!(f, "{}", row.trim_end())
+/// A row of the table: what is counted, and the counts.
+pub(crate) fn row<T: fmt::Display>(
+    f: &mut fmt::Formatter<'_>,
+    cells: impl IntoIterator<Item = T>,
+) -> fmt::Result {
+    let mut cells = cells.into_iter();
+    if let Some(what) = cells.next() {
+        write!(f, "{what:>8}")?;
+    }
+    for cell in cells {
+        write!(f, " {cell:>11}")?;
+    }
+    writeln!(f)
 }

@@ -1,7 +1,7 @@
 //! Directives: their fields in bytes, what they select and what they match.
 
 use crate::refusal::Refusal;
-use crate::register::{record_bit, Reach, RecordSet, Register};
+use crate::register::{Reach, RecordSet, Register};
 use crate::request::{has_bit, Request};
 
 /// The length of a directive in an edition 2 card and in a draft.
@@ -220,10 +220,7 @@ impl Directive {
 
     /// All records that it selects.
     pub fn selected(&self, register: &Register) -> RecordSet {
-        register
-            .numbered_records()
-            .filter(|(number, _)| self.selects(register, *number))
-            .fold(0, |set, (number, _)| set | record_bit(number))
+        register.records_where(|number, _| self.selects(register, number))
     }
 
     /// "A directive matches it when subject, subject origins and purposes

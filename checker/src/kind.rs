@@ -1,6 +1,8 @@
 //! The kinds of lines that are printed: for the card, and for each call.
 
-use crate::replay::{Call, ADVANCE, BRIEF, COMMIT, DECIDE, ISSUE, REVOKE, WRITE};
+use std::fmt;
+
+use crate::replay::{Call, ADVANCE, BRIEF, COMMIT, DECIDE, ISSUE, PREVIEW, REVOKE, WRITE};
 
 #[derive(Clone, Copy, Debug, PartialEq, Eq)]
 pub enum Kind {
@@ -12,6 +14,7 @@ pub enum Kind {
     Decide,
     Brief,
     Write,
+    Preview,
 }
 
 impl Kind {
@@ -25,6 +28,7 @@ impl Kind {
             DECIDE => Some(Kind::Decide),
             BRIEF => Some(Kind::Brief),
             WRITE => Some(Kind::Write),
+            PREVIEW => Some(Kind::Preview),
             _ => None,
         }
     }
@@ -38,6 +42,7 @@ impl Kind {
             Call::Decide(_) => Kind::Decide,
             Call::Brief { .. } => Kind::Brief,
             Call::Write { .. } => Kind::Write,
+            Call::Preview { .. } => Kind::Preview,
         }
     }
 
@@ -52,34 +57,60 @@ impl Kind {
             Kind::Decide => "a decide",
             Kind::Brief => "a brief",
             Kind::Write => "a write",
+            Kind::Preview => "a preview",
         }
     }
 
-    /// How many bytes the value of such a call has; nothing where any number
-    /// will do.
-    pub fn value_length(self) -> Option<usize> {
+    /// How many bytes the value of such a call has: so many, or with a draft
+    /// so many at least.
+    pub fn value_length(self) -> ValueLength {
         match self {
-            Kind::Card | Kind::Commit => None,
-            Kind::Revoke | Kind::Write => Some(2),
-            Kind::Advance | Kind::Brief => Some(4),
-            Kind::Issue => Some(9),
-            Kind::Decide => Some(7),
+            Kind::Card | Kind::Commit => ValueLength::AtLeast(0),
+            Kind::Revoke | Kind::Write => ValueLength::Just(2),
+            Kind::Advance | Kind::Brief => ValueLength::Just(4),
+            Kind::Issue => ValueLength::Just(9),
+            Kind::Decide => ValueLength::Just(7),
+            Kind::Preview => ValueLength::AtLeast(6),
         }
     }
 
     /// Whether it can be refused by this question.
     pub fn has_question(self, number: u8) -> bool {
-        let (first, last) = match self {
-            Kind::Card => (1, 13),
-            Kind::Commit => (6, 14),
-            Kind::Revoke => (15, 15),
-            Kind::Advance => (16, 16),
-            Kind::Decide => (17, 17),
-            Kind::Issue => (18, 21),
-            Kind::Brief => (22, 22),
-            Kind::Write => (23, 24),
-        };
-        let draft_alone = self == Kind::Card && number == 6;
-        (first..=last).contains(&number) && !draft_alone
+        match self {
+            Kind::Card => matches!(number, 1..=5 | 7..=13),
+            Kind::Commit => matches!(number, 6..=14),
+            Kind::Revoke => number == 15,
+            Kind::Advance => number == 16,
+            Kind::Decide => number == 17,
+            Kind::Issue => matches!(number, 18..=21),
+            Kind::Brief => number == 22,
+            Kind::Write => matches!(number, 23..=24),
+            Kind::Preview => matches!(number, 6..=14 | 17),
+        }
+    }
+}
+
+/// The length of the value of a call.
+#[derive(Clone, Copy, Debug, PartialEq, Eq)]
+pub enum ValueLength {
+    Just(u16),
+    AtLeast(u16),
+}
+
+impl ValueLength {
+    pub fn allows(self, length: u16) -> bool {
+        match self {
+            ValueLength::Just(just) => length == just,
+            ValueLength::AtLeast(least) => length >= least,
+        }
+    }
+}
+
+impl fmt::Display for ValueLength {
+    fn fmt(&self, f: &mut fmt::Formatter<'_>) -> fmt::Result {
+        match self {
+            ValueLength::Just(just) => write!(f, "{just} bytes"),
+            ValueLength::AtLeast(least) => write!(f, "at least {least} bytes"),
+        }
     }
 }

@@ -1,9 +1,10 @@
 //! The ledger of one patient and its calls.
 
 use crate::directive::{Directive, Effect, Fields, Subject, LENGTH};
+use crate::preview::Preview;
 use crate::refusal::Refusal;
-use crate::register::{Record, Register};
-use crate::request::{has_bit, Query, ORIGINS, PURPOSES, TREATMENT};
+use crate::register::{RecordWords, Register};
+use crate::request::{has_bit, Query, Requester, ORIGINS, PURPOSES, TREATMENT};
 use crate::validation;
 
 /// "Are fewer than 32 active?"
@@ -42,14 +43,6 @@ pub struct Token {
 pub struct Dropped {
     pub directives: usize,
     pub tokens: usize,
-}
-
-/// "The brief is two 64-bit words, bit i for record i (word i / 64, bit i mod
-/// 64), set when labels and scope share a bit, and the count of set bits."
-#[derive(Clone, Copy, Debug, PartialEq, Eq)]
-pub struct Brief {
-    pub words: [u64; 2],
-    pub count: u32,
 }
 
 /// Why a decision is what it is; a directive by the lowest matching number.
@@ -230,24 +223,19 @@ impl Ledger {
         Ok(())
     }
 
-    /// The brief for "a live token of that number for that person".
-    pub fn brief(&self, number: u16, person: u16) -> Result<Brief, Refusal> {
+    /// The brief for "a live token of that number for that person": bit i is
+    /// "set when labels and scope share a bit".
+    pub fn brief(&self, number: u16, person: u16) -> Result<RecordWords, Refusal> {
         let token = self
             .tokens
             .iter()
             .find(|token| token.number == number && token.person == person)
             .ok_or(Refusal::NoToken)?;
         let scope = scope(token.states);
-        let mut words = [0u64; 2];
-        for (word, records) in words.iter_mut().zip(self.register.records().chunks(64)) {
-            for (record, bit) in records.iter().zip(0u32..) {
-                if record.labels & scope != 0 {
-                    *word |= 1u64.checked_shl(bit).unwrap_or(0);
-                }
-            }
-        }
-        let count = words.iter().map(|word| word.count_ones()).sum();
-        Ok(Brief { words, count })
+        let disclosed = self
+            .register
+            .records_where(|_, record| record.labels & scope != 0);
+        Ok(RecordWords::of(disclosed))
     }
 
     /// "The patient, permit, basis 1; else the record's author, permit, basis
@@ -256,7 +244,9 @@ impl Ledger {
     /// requester's origin is among the record's origins and the purpose is 0,
     /// otherwise deny."
     pub fn decide(&self, query: Query) -> Result<Decision, Refusal> {
-        let record = self.question_17(query)?;
+        self.question_17(query.requester())?;
+        let record = self.register.record(query.record);
+        let record = record.ok_or(Refusal::QueryRange)?;
         let (effect, basis) = if query.person == self.patient {
             (Effect::Permit, Basis::Patient)
         } else if query.person == record.author {
@@ -271,14 +261,35 @@ impl Ledger {
         Ok(Decision { effect, basis })
     }
 
-    /// "Decide: does the register have role and record, origin < 16,
-    /// purpose < 11?" The record, if so.
-    fn question_17(&self, query: Query) -> Result<&Record, Refusal> {
-        let record = self.register.record(query.record);
-        let in_range = self.register.has_role(query.role)
-            && query.origin < ORIGINS
-            && query.purpose < PURPOSES;
-        record.filter(|_| in_range).ok_or(Refusal::QueryRange)
+    /// "Decide: does the register have role .., origin < 16, purpose < 11?",
+    /// the "record part left out".
+    fn question_17(&self, requester: Requester) -> Result<(), Refusal> {
+        let in_range = self.register.has_role(requester.role)
+            && requester.origin < ORIGINS
+            && requester.purpose < PURPOSES;
+        in_range.then_some(()).ok_or(Refusal::QueryRange)
+    }
+
+    /// The decision for this requester on every record, in order.
+    pub fn decide_every(&self, requester: Requester) -> Result<Vec<Decision>, Refusal> {
+        self.question_17(requester)?;
+        let records = self.register.numbered_records();
+        records
+            .map(|(record, _)| self.decide(requester.query(record)))
+            .collect()
+    }
+
+    /// "This equals committing on a copy of the ledger and deciding every
+    /// record before and after. A draft that would be refused gives that
+    /// refusal; otherwise the requester is put to question 17, its record
+    /// part left out. The ledger handed in comes back equal."
+    pub fn preview(&self, requester: Requester, draft: &[u8]) -> Result<Preview, Refusal> {
+        let mut copy = self.clone();
+        copy.commit(draft)?;
+        Ok(Preview {
+            before: self.decide_every(requester)?,
+            after: copy.decide_every(requester)?,
+        })
     }
 
     /// The matching active directive of the lowest number at the clock.

@@ -1,4 +1,4 @@
-//! An implementation of document 01, written from the documents alone: card,
+//! An implementation of document 01 and of what document 02 adds, written from the documents alone: card,
 //! ledger, decisions and emergency briefs, with a seeded generator of inputs
 //! and a comparison with other implementations.
 
@@ -22,6 +22,8 @@ pub mod request;
 pub mod validation;
 
 pub mod ledger;
+
+pub mod preview;
 
 pub mod card;
 

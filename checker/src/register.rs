@@ -15,6 +15,31 @@ pub fn record_bit(record: u8) -> RecordSet {
     1u128.checked_shl(u32::from(record)).unwrap_or(0)
 }
 
+/// "Two 64-bit words, bit i for record i (word i / 64, bit i mod 64), .. and
+/// the count of set bits."
+#[derive(Clone, Copy, Debug, PartialEq, Eq)]
+pub struct RecordWords {
+    pub words: [u64; 2],
+    pub count: u32,
+}
+
+impl RecordWords {
+    pub fn of(records: RecordSet) -> RecordWords {
+        let high = records.checked_shr(u64::BITS).unwrap_or(0);
+        let word = |half: u128| u64::try_from(half & u128::from(u64::MAX)).unwrap_or(0);
+        RecordWords {
+            words: [word(records), word(high)],
+            count: records.count_ones(),
+        }
+    }
+}
+
+/// The records of two such words.
+pub fn set_of_words([low, high]: [u64; 2]) -> RecordSet {
+    let high = u128::from(high).checked_shl(u64::BITS).unwrap_or(0);
+    high | u128::from(low)
+}
+
 /// "A record has an author (person, 16 bits), origins (16-bit set, not
 /// empty), sensitivities (16-bit set, not empty), a type 0..7 and labels
 /// (16-bit set, may be empty)."
@@ -148,6 +173,13 @@ impl Register {
     /// The records with their numbers.
     pub fn numbered_records(&self) -> impl Iterator<Item = (u8, &Record)> {
         (0u8..).zip(&self.records)
+    }
+
+    /// The records of which this holds.
+    pub fn records_where(&self, holds: impl Fn(u8, &Record) -> bool) -> RecordSet {
+        self.numbered_records()
+            .filter(|(number, record)| holds(*number, record))
+            .fold(0, |set, (number, _)| set | record_bit(number))
     }
 
     /// The numbers of the roles.

@@ -4,7 +4,7 @@ use crate::answer::{Answer, CardSize};
 use crate::bytes::{field, Bytes};
 use crate::card;
 use crate::ledger::Ledger;
-use crate::request::Query;
+use crate::request::{Query, Requester};
 
 pub const COMMIT: u8 = 0x10;
 pub const REVOKE: u8 = 0x11;
@@ -13,6 +13,10 @@ pub const ISSUE: u8 = 0x13;
 pub const DECIDE: u8 = 0x14;
 pub const BRIEF: u8 = 0x15;
 pub const WRITE: u8 = 0x16;
+pub const PREVIEW: u8 = 0x17;
+
+/// How many bytes of a preview's value stand before the draft.
+pub const REQUESTER_LENGTH: usize = 6;
 
 /// A call with its arguments.
 #[derive(Clone, Debug, PartialEq, Eq)]
@@ -41,6 +45,10 @@ pub enum Call {
     Write {
         buffer: u16,
     },
+    Preview {
+        requester: Requester,
+        draft: Vec<u8>,
+    },
 }
 
 impl Call {
@@ -49,7 +57,7 @@ impl Call {
         let mut bytes = Bytes::new(value);
         let call = match tag {
             COMMIT => Call::Commit {
-                draft: bytes.take(value.len())?.to_vec(),
+                draft: bytes.take_rest().to_vec(),
             },
             REVOKE => Call::Revoke {
                 number: bytes.u16()?,
@@ -76,6 +84,15 @@ impl Call {
             },
             WRITE => Call::Write {
                 buffer: bytes.u16()?,
+            },
+            PREVIEW => Call::Preview {
+                requester: Requester {
+                    person: bytes.u16()?,
+                    role: bytes.u16()?,
+                    origin: bytes.u8()?,
+                    purpose: bytes.u8()?,
+                },
+                draft: bytes.take_rest().to_vec(),
             },
             _ => return None,
         };
@@ -111,6 +128,13 @@ impl Call {
                 field(BRIEF, &value)
             }
             Call::Write { buffer } => field(WRITE, &buffer.to_be_bytes()),
+            Call::Preview { requester, draft } => {
+                let mut value = requester.person.to_be_bytes().to_vec();
+                value.extend(requester.role.to_be_bytes());
+                value.extend([requester.origin, requester.purpose]);
+                value.extend(draft);
+                field(PREVIEW, &value)
+            }
         }
     }
 
@@ -135,6 +159,9 @@ impl Call {
                     lent.truncate(length);
                     lent
                 }))
+            }
+            Call::Preview { requester, draft } => {
+                Answer::Preview(ledger.preview(*requester, draft))
             }
         }
     }

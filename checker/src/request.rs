@@ -29,6 +29,15 @@ pub struct Query {
 }
 
 impl Query {
+    pub fn requester(self) -> Requester {
+        Requester {
+            person: self.person,
+            role: self.role,
+            origin: self.origin,
+            purpose: self.purpose,
+        }
+    }
+
     /// The request at this minute.
     pub fn at(self, minute: u32) -> Request {
         Request {
@@ -38,6 +47,29 @@ impl Query {
             record: self.record,
             purpose: self.purpose,
             minute,
+        }
+    }
+}
+
+/// "One requester (person, role, origin, purpose)": a request without its
+/// record and its minute.
+#[derive(Clone, Copy, Debug, PartialEq, Eq)]
+pub struct Requester {
+    pub person: u16,
+    pub role: u16,
+    pub origin: u8,
+    pub purpose: u8,
+}
+
+impl Requester {
+    /// What they ask on this record.
+    pub fn query(self, record: u8) -> Query {
+        Query {
+            person: self.person,
+            role: self.role,
+            origin: self.origin,
+            record,
+            purpose: self.purpose,
         }
     }
 }

@@ -5,21 +5,25 @@ use std::fs;
 use std::path::Path;
 use std::process::Output;
 
-use checker::access::{access, Access, Requester};
+use checker::access::{access, Access, Asking};
 use checker::access_counts::AccessCounts;
 use checker::card;
 use checker::cardcheck::take_card;
 use checker::directive::Subject;
 use checker::explain::{access_in_words, access_line};
-use checker::generate::{inputs, requester, Input};
+use checker::generate::{asking, inputs, Input};
 use checker::ledger::Ledger;
 use checker::refusal::Refusal;
+use checker::request::Requester;
 
 use crate::runs::{
     after, changed, compare, different, directory, fed, files, own, run, script, text, CHECKER,
 };
 use crate::samples::stored;
 use crate::support::sample;
+
+/// So many cards that every answer of `access` occurs.
+const CARDS: u64 = 1000;
 
 fn by(person: u16, role: u16, origin: u8, purpose: u8) -> Requester {
     Requester {
@@ -30,9 +34,19 @@ fn by(person: u16, role: u16, origin: u8, purpose: u8) -> Requester {
     }
 }
 
+fn alone(requester: Requester) -> Asking {
+    Asking {
+        requester,
+        draft: None,
+    }
+}
+
+fn answer(card: &[u8], asking: &Asking) -> Access {
+    access(card, asking).expect("a slice can be read")
+}
+
 fn lines(card: &[u8], requester: Requester) -> String {
-    let access = access(card, requester).expect("a slice can be read");
-    access.to_string()
+    answer(card, &alone(requester)).to_string()
 }
 
 /// The lines of the demonstration's card, typed from the words of its text.
@@ -42,7 +56,7 @@ fn assert_demo(requester: Requester, expected: [&str; 12]) {
         .map(|(record, decision)| format!("record {record}: {decision}\n"))
         .collect();
     assert_eq!(lines(&stored("demo.card"), requester), expected);
-    let arguments = [&["access".to_string()], &requester.arguments()[..]].concat();
+    let arguments = [&["access".to_string()], &alone(requester).arguments()[..]].concat();
     let output = run(&arguments, &stored("demo.card"));
     assert_eq!(text(&output.stdout), expected);
     assert_eq!(output.status.code(), Some(0));
@@ -225,7 +239,7 @@ fn accepted(seed: u64, cards: u64) -> Vec<(Ledger, Requester)> {
     for input in inputs(seed, cards, 0) {
         let bytes = take_card(&input.bytes[..]).expect("a slice can be read");
         if let Ok(ledger) = card::read(&bytes) {
-            accepted.push((ledger, requester(&input)));
+            accepted.push((ledger, asking(&input).requester));
         }
     }
     accepted
@@ -273,10 +287,10 @@ fn requesters_of_every_sort_are_drawn_often() {
 
 /// The seed, the index and the card fix it.
 #[test]
-fn a_requester_is_drawn_again() {
-    let all = |seed| -> Vec<Requester> {
+fn what_is_asked_is_drawn_again() {
+    let all = |seed| -> Vec<Asking> {
         let cards = inputs(seed, 50, 0);
-        cards.map(|input| requester(&input)).collect()
+        cards.map(|input| asking(&input)).collect()
     };
     assert_eq!(all(4), all(4));
     assert_ne!(all(4), all(5));
@@ -285,29 +299,29 @@ fn a_requester_is_drawn_again() {
 fn counts(inputs: impl Iterator<Item = Input>) -> AccessCounts {
     let mut counts = AccessCounts::default();
     for input in inputs {
-        let answer = access(&input.bytes[..], requester(&input));
-        counts.add(&answer.expect("a slice can be read"));
+        counts.add(&asking(&input), &access_of(&input));
     }
     counts
 }
 
 #[test]
 fn what_did_not_occur_is_named() {
-    assert_eq!(counts(inputs(11, 300, 0)).missing(), [""; 0]);
-    assert_eq!(
-        AccessCounts::default().missing(),
-        [
-            "tables of access",
-            "cards refused by access",
-            "requesters refused by access",
-            "permit with basis 1 by access",
-            "permit with basis 2 by access",
-            "permit with basis 3 by access",
-            "permit with basis 4 by access",
-            "deny with basis 3 by access",
-            "deny with basis 4 by access",
-        ]
-    );
+    assert_eq!(counts(inputs(11, CARDS, 0)).missing(), [""; 0]);
+    let missing = AccessCounts::default().missing();
+    // 6 sorts of answers, 9 refusals of drafts, 8 ways to write one, 6 bases.
+    assert_eq!(missing.len(), 6 + 9 + 8 + 6);
+    for what in [
+        "tables of access",
+        "cards refused by access",
+        "requesters refused by access",
+        "tables with a draft that changes something",
+        "drafts refused by access with 14",
+        "unusable drafts with a blank",
+        "permit with basis 1 by access",
+        "deny with basis 4 by access",
+    ] {
+        assert!(missing.contains(&what.to_string()), "{what}");
+    }
     let out = directory("access-missing");
     let output = compare(&["--access", &own("access"), "--cards", "3"], &out);
     assert_eq!(output.status.code(), Some(1));
@@ -323,10 +337,12 @@ fn what_did_not_occur_is_named() {
 #[test]
 fn the_checker_does_not_differ_from_itself_in_access() {
     let out = directory("access-same");
-    let alone = compare(&["--access", &own("access"), "--cards", "300"], &out);
+    let cards = CARDS.to_string();
+    let alone = compare(&["--access", &own("access"), "--cards", &cards], &out);
     let stdout = text(&alone.stdout);
     assert!(alone.status.success(), "{stdout}");
-    assert!(stdout.ends_with("\n300 cards and 0 replays, 0 different\n"));
+    let end = format!("\n{CARDS} cards and 0 replays, 0 different\n");
+    assert!(stdout.ends_with(&end));
     let (cardcheck, access, replay) = (own("cardcheck"), own("access"), own("replay"));
     let programs = [
         "--cardcheck",
@@ -336,13 +352,14 @@ fn the_checker_does_not_differ_from_itself_in_access() {
         "--replay",
         &replay,
     ];
-    let counts = ["--cards", "300", "--replays", "150"];
+    let counts = ["--cards", &cards, "--replays", "150"];
     let all = compare(&[&programs[..], &counts].concat(), &out);
     let both = text(&all.stdout);
     assert!(all.status.success(), "{both}");
-    assert!(both.ends_with("\n300 cards and 150 replays, 0 different\n"));
+    let both_end = format!("\n{CARDS} cards and 150 replays, 0 different\n");
+    assert!(both.ends_with(&both_end));
     let (_, tables) = stdout.split_once("\n  access ").expect("its table");
-    let (tables, _) = tables.split_once("\n300 cards").expect("the end");
+    let tables = tables.strip_suffix(&end).expect("the end");
     assert!(both.contains(tables));
     assert_eq!(files(&out), [""; 0]);
 }
@@ -518,20 +535,25 @@ fn keep_going_counts_access_apart() {
         let count = row.split_whitespace().next().expect("a count");
         count.parse::<usize>().expect("a number")
     };
-    let cards: Vec<Access> = inputs(11, 300, 0).map(|input| access_of(&input)).collect();
-    let ninth = Access::CardRefused(Refusal::DraftMinutes);
-    let ninth = cards.iter().filter(|one| **one == ninth).count();
-    let patients = cards
-        .iter()
-        .filter(|one| one.to_string().contains("(patient)"));
-    assert_eq!(counted("  refusal 9 of a card"), ninth);
-    assert_eq!(counted("  access: refusal 9 of a card"), ninth);
-    assert_eq!(counted("  access: permit with basis 1"), patients.count());
-    assert_eq!(stdout.matches("different: ").count(), 3);
+    let ninth = |answer: &Access| *answer == Access::CardRefused(Refusal::DraftMinutes);
+    let count = |is: &dyn Fn(&Input) -> bool| inputs(11, 300, 0).filter(is).count();
+    let without_draft = count(&|input| ninth(&answer(&input.bytes, &alone(by(1, 1, 1, 1)))));
+    let refused = count(&|input| ninth(&access_of(input)));
+    let of_a_patient = |answer: &Access| answer.to_string().contains("(patient)");
+    let patients = count(&|input| {
+        let answer = access_of(input);
+        matches!(answer, Access::Table(_)) && of_a_patient(&answer)
+    });
+    assert_eq!(counted("  refusal 9 of a card"), without_draft);
+    assert_eq!(counted("  access: refusal 9 of a card"), refused);
+    assert_eq!(counted("  access: permit with basis 1"), patients);
+    assert!(counted("  access: refusal 9 of a preview") > 0);
+    assert!(counted("  access: preview without a change") > 0);
+    assert_eq!(stdout.matches("different: ").count(), 5);
 }
 
 fn access_of(input: &Input) -> Access {
-    access(&input.bytes[..], requester(input)).expect("a slice can be read")
+    answer(&input.bytes, &asking(input))
 }
 
 #[test]
@@ -549,7 +571,7 @@ fn lines_of_access_in_words() {
         assert_eq!(access_in_words(line), words);
     }
     let card = sample().bytes();
-    let patient = by(7, 1, 0, 0);
+    let patient = &alone(by(7, 1, 0, 0));
     let explained = access_line(&card, patient, 2).expect("there is a third record");
     assert_eq!(explained.line, "record 2: permit, basis 1 (patient)");
     assert_eq!(
@@ -559,7 +581,7 @@ fn lines_of_access_in_words() {
          Decision: permit, basis 1, the patient's own access."
     );
     assert_eq!(access_line(&card, patient, 3), None);
-    let outside = access_line(&card, by(7, 1, 16, 0), 0).expect("there is a line");
+    let outside = access_line(&card, &alone(by(7, 1, 16, 0)), 0).expect("there is a line");
     assert_eq!(outside.line, "requester refused: question 17");
     let words = "Access: the patient (person 7) in role 1 asks from origin 16, for treatment \
                  (purpose 0).\nRefused by question 17: ";
@@ -577,9 +599,9 @@ fn lines_of_access_in_words() {
 #[test]
 fn every_line_of_access_is_explained() {
     for input in inputs(12, 200, 0) {
-        let asking = requester(&input);
-        for (place, line) in lines(&input.bytes, asking).lines().enumerate() {
-            let explained = access_line(&input.bytes, asking, place).expect("it is explained");
+        let asking = asking(&input);
+        for (place, line) in access_of(&input).to_string().lines().enumerate() {
+            let explained = access_line(&input.bytes, &asking, place).expect("it is explained");
             assert_eq!(explained.line, line, "{}", input.file_name());
             assert!(explained.words.lines().count() >= 2);
             assert_ne!(access_in_words(line), "no line that access can print");

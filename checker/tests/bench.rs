@@ -58,6 +58,8 @@ fn every_input_gives_what_is_meant() {
             "advance",
             "issue-brief",
             "write",
+            "preview",
+            "preview-none",
             "read"
         ]
     );
@@ -251,6 +253,32 @@ fn the_conflict_is_with_the_last_directive_alone() {
     for number in 1..=30 {
         assert_eq!(would_commit(&less, widened), Err(Refusal::Conflict(number)));
         assert_eq!(less.revoke(number), Ok(()));
+    }
+}
+
+/// The draft selects all records that it can, and is accepted. It matches the
+/// requester in one input, and in the other it does not.
+#[test]
+fn previews_are_of_a_draft_over_everything() {
+    for (name, changes) in [("preview", 64), ("preview-none", 0)] {
+        let measure = measure(name);
+        let ledger = ledger(&measure);
+        assert_eq!(ledger.register().roles().len(), 16);
+        assert_eq!(ledger.register().records().len(), 128);
+        assert_eq!(ledger.active().len(), 31);
+        let calls = calls(&measure);
+        assert_eq!(calls.len(), measure.count);
+        let Call::Preview { requester, draft } = &calls[0] else {
+            panic!("{:?}", calls[0]);
+        };
+        let fields = Fields::decode(draft[..].try_into().expect("25 bytes"));
+        assert_eq!(would_commit(&ledger, fields), Ok(()));
+        let directive = Directive::from_fields(&fields).expect("the draft is in range");
+        assert_eq!(directive.selected(ledger.register()).count_ones(), 127);
+        let request = requester.query(1).at(ledger.clock());
+        assert_eq!(directive.matches(ledger.register(), &request), changes > 0);
+        let preview = ledger.preview(*requester, draft).expect("it is shown");
+        assert_eq!(preview.words().count, changes);
     }
 }
 

@@ -1,8 +1,9 @@
 //! K1 to K12 of document 01, every clause of each.
 
 use checker::directive::Fields;
-use checker::ledger::{Basis, Brief, Dropped};
+use checker::ledger::{Basis, Dropped};
 use checker::refusal::Refusal;
+use checker::register::RecordWords;
 use checker::request::Query;
 
 use crate::support::*;
@@ -118,7 +119,7 @@ fn k9_all_sensitivities_must_lie_in_the_set() {
 fn k10_brief_while_the_token_is_live() {
     let mut ledger = sample().ledger();
     assert_eq!(ledger.issue(9, 600, 0x01, 30), Ok(()));
-    let brief = Brief {
+    let brief = RecordWords {
         words: [2, 0],
         count: 1,
     };

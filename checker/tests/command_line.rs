@@ -14,7 +14,7 @@ use checker::replay::encode;
 use crate::runs::{directory, files, path_text, run, text, CHECKER};
 use crate::support::sample;
 
-const COMMANDS: [&str; 11] = [
+const COMMANDS: [&str; 12] = [
     "cardcheck",
     "replay",
     "access",
@@ -22,6 +22,7 @@ const COMMANDS: [&str; 11] = [
     "explain",
     "assemble",
     "disassemble",
+    "draft",
     "generate",
     "compare",
     "conformance",
@@ -118,7 +119,7 @@ fn wrong_requesters_are_named() {
         assert_wrong(&arguments, "checker access", &message);
     }
     let more = "'more' is one argument too many";
-    let arguments = ["access", "1", "1", "1", "1", "more"];
+    let arguments = ["access", "1", "1", "1", "1", "", "more"];
     assert_wrong(&arguments, "checker access", more);
     for (place, most, above) in [
         (0, 65535, "65536"),
@@ -138,6 +139,29 @@ fn wrong_requesters_are_named() {
         arguments[place + 1] = "-1";
         assert_wrong(&arguments, "checker access", "no option '-1'");
     }
+}
+
+/// As one argument or as several, and what `access` makes of it.
+#[test]
+fn the_digits_of_a_draft_from_its_words() {
+    let words = "2 deny role 1 record 0 reach 2 from 1000 until 2000";
+    let digits = "000200010001ffff0002ffffffffff07ff000003e8000007d0\n";
+    let split: Vec<&str> = words.split(' ').collect();
+    for words in [&split[..], &[words], &["commit", words]] {
+        let output = run(&[&["draft"], words].concat(), &[]);
+        assert_eq!(text(&output.stdout), digits);
+        assert_eq!(output.status.code(), Some(0));
+        assert_eq!(text(&output.stderr), "");
+    }
+    let arguments = ["access", "600", "1", "1", "0", digits.trim_end()];
+    let table = text(&run(&arguments, &sample().bytes()).stdout);
+    assert!(
+        table.contains(", changes to deny, basis 3 (directive 2)\n"),
+        "{table}"
+    );
+    assert_wrong(&["draft"], "checker draft", "WORDS.. is missing");
+    let lacks = "draft lacks record";
+    assert_wrong(&["draft", "2", "deny", "role", "1"], "checker draft", lacks);
 }
 
 #[test]

@@ -8,6 +8,7 @@ use std::process::Command;
 use std::thread;
 use std::time::{Duration, Instant};
 
+use checker::answer::Answer;
 use checker::compare::answers;
 use checker::compare::quoting::{split, QuotingError};
 use checker::counts::Kind;
@@ -232,12 +233,13 @@ fn a_difference_that_does_not_come_again() {
     assert_eq!(files(&out), ["11-0.replay"]);
 }
 
-/// What a line that is changed is counted by.
-fn counted(line: &str) -> Option<&'static str> {
-    match line {
-        "14" => Some("refusal 14 of a call"),
-        "15" => Some("refusal 15 of a call"),
-        "0 0 4" => Some("deny with basis 4"),
+/// What an answer whose line is changed is counted by.
+fn counted(answer: &Answer) -> Option<&'static str> {
+    match (answer.to_string().as_str(), answer) {
+        ("14", Answer::Preview(_)) => Some("refusal 14 of a preview"),
+        ("14", _) => Some("refusal 14 of a call"),
+        ("15", _) => Some("refusal 15 of a call"),
+        ("0 0 4", _) => Some("deny with basis 4"),
         _ => None,
     }
 }
@@ -253,13 +255,12 @@ fn keep_going_counts_the_differences() {
     let mut expected: BTreeMap<&str, (u64, String)> = BTreeMap::new();
     for input in inputs(11, 0, 60) {
         let answers = answers(&input).expect("the input is answered");
-        let mut lines = answers.iter().map(ToString::to_string);
-        if let Some(class) = lines.find_map(|line| counted(&line)) {
+        if let Some(class) = answers.iter().find_map(counted) {
             let entry = expected.entry(class).or_insert((0, input.file_name()));
             entry.0 += 1;
         }
     }
-    assert_eq!(expected.len(), 3);
+    assert_eq!(expected.len(), 4);
     let stdout = text(&output.stdout);
     for (class, (count, first)) in &expected {
         let row = format!("\n{count:>10} {first:>20}  {class}\n");
@@ -272,7 +273,7 @@ fn keep_going_counts_the_differences() {
     let mut firsts: Vec<String> = expected.into_values().map(|(_, first)| first).collect();
     firsts.sort();
     assert_eq!(files(&out), firsts);
-    assert_eq!(stdout.matches("different: ").count(), 3);
+    assert_eq!(stdout.matches("different: ").count(), 4);
 }
 
 #[test]

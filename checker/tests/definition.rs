@@ -3,11 +3,11 @@
 
 use checker::answer::Answer;
 use checker::directive::{Effect, Fields};
-use checker::ledger::{Basis, Brief, Decision, Dropped, Ledger, Token};
+use checker::ledger::{Basis, Decision, Dropped, Ledger, Token};
 use checker::refusal::Refusal;
-use checker::register::Record;
+use checker::register::{Record, RecordWords};
 use checker::replay::Call;
-use checker::request::{Query, Request};
+use checker::request::{Query, Request, Requester};
 
 use crate::support::Card;
 
@@ -318,7 +318,7 @@ impl Model {
     }
 
     /// The brief, record by record.
-    fn brief(&self, number: u16, person: u16) -> Result<Brief, Refusal> {
+    fn brief(&self, number: u16, person: u16) -> Result<RecordWords, Refusal> {
         let scopes = [
             0x000F, 0x000B, 0x0017, 0x0023, 0x00C3, 0x01C3, 0x0603, 0x000B,
         ];
@@ -337,7 +337,7 @@ impl Model {
                 count += 1;
             }
         }
-        Ok(Brief { words, count })
+        Ok(RecordWords { words, count })
     }
 
     /// "The patient, permit, basis 1; else the record's author, permit, basis
@@ -367,6 +367,37 @@ impl Model {
             }
             None => decision(Effect::Deny, Basis::Default),
         }
+    }
+
+    /// "Committing on a copy of the ledger."
+    pub fn after_commit(&self, draft: &[u8]) -> Result<Model, Refusal> {
+        let mut copy = self.clone();
+        copy.commit(draft).map(|()| copy)
+    }
+
+    /// "Deciding every record before and after", with the copy after the
+    /// commit; "a draft that would be refused gives that refusal; otherwise
+    /// the requester is put to question 17, its record part left out".
+    pub fn preview(
+        &self,
+        after: &Result<Model, Refusal>,
+        requester: Requester,
+    ) -> Result<RecordWords, Refusal> {
+        let after = after.as_ref().map_err(|refusal| *refusal)?;
+        let has_role = usize::from(requester.role) < self.roles.len();
+        if !has_role || requester.origin > 15 || requester.purpose > 10 {
+            return Err(Refusal::QueryRange);
+        }
+        let mut words = [0, 0];
+        let mut count = 0;
+        for record in 0..self.records.len() {
+            let query = requester.query(record as u8);
+            if self.decide(query).effect != after.decide(query).effect {
+                words[record / 64] |= 1 << (record % 64);
+                count += 1;
+            }
+        }
+        Ok(RecordWords { words, count })
     }
 
     /// The answer to a commit, revoke, advance, issue or brief.
@@ -400,7 +431,9 @@ impl Model {
                 Answer::Issue(self.issue(token, *length))
             }
             Call::Brief { number, person } => Answer::Brief(self.brief(*number, *person)),
-            Call::Decide(_) | Call::Write { .. } => panic!("not a call of the model"),
+            Call::Decide(_) | Call::Write { .. } | Call::Preview { .. } => {
+                panic!("not a call of the model")
+            }
         }
     }
 }

@@ -14,7 +14,7 @@ use checker::kind::Kind;
 use checker::ledger::Basis;
 use checker::refusal::Refusal;
 use checker::replay::{encode, Call, Replay};
-use checker::request::{Query, Request};
+use checker::request::{Query, Request, Requester};
 
 use crate::support::*;
 
@@ -179,6 +179,61 @@ fn the_stored_sample() {
     }
 }
 
+fn preview_by(requester: Requester, draft: &[u8]) -> Call {
+    Call::Preview {
+        requester,
+        draft: draft.to_vec(),
+    }
+}
+
+/// The requester, the draft, and each record with what becomes of it.
+#[test]
+fn previews() {
+    let q = "person 600 in role 1 asks from origin 1, for treatment (purpose 0)";
+    let words = call_words(preview_by(requester_q(), &directive_a().encode()));
+    let default = "permit, basis 4, the default consent";
+    assert_eq!(
+        words,
+        format!(
+            "Preview: directive 1 {A} 1000 to 1999 (until 2000); {q}.\n\
+             Would change 2 of 3 records: records 1, 2.\n\
+             - record 1: {default}, becomes deny, basis 3, directive 1.\n\
+             - record 2: {default}, becomes deny, basis 3, directive 1."
+        )
+    );
+    let permit = draft(PERMIT, (PERSON, 600), 1, 0);
+    let words = call_words(preview_by(requester_q(), &permit.encode()));
+    let (_, shown) = words.split_once('\n').expect("an answer");
+    assert_eq!(
+        shown,
+        format!(
+            "Would change no decision on 3 records.\n\
+             - record 1: {default}, gets basis 3, directive 2. A new basis alone is no change."
+        )
+    );
+    let later = over(1500, 2000, directive_a());
+    let words = call_words(preview_by(requester_q(), &later.encode()));
+    assert!(
+        words.ends_with("\nWould change no decision on 3 records."),
+        "{words}"
+    );
+    // A refused draft is explained as in a commit.
+    for draft in [
+        over(0, 1, directive_a()),
+        draft(DENY, (PERSON, 7), 0, 0),
+        draft(PERMIT, (ROLE, 3), 2, 1),
+    ] {
+        let bytes = draft.encode();
+        let commit = call_words(Call::Commit {
+            draft: bytes.to_vec(),
+        });
+        let preview = call_words(preview_by(requester_q(), &bytes));
+        let why = |words: &str| words.split_once('\n').map(|(_, why)| why.to_string());
+        assert_eq!(why(&commit), why(&preview));
+        assert!(preview.contains("\nRefused by question "), "{preview}");
+    }
+}
+
 /// What is wrong with a refused call other than commit.
 #[test]
 fn refused_calls() {
@@ -228,6 +283,16 @@ fn refused_calls() {
         (
             Call::Write { buffer: 55 },
             "The card has 56 bytes, and the buffer 55.",
+        ),
+        (
+            preview_by(outside.requester(), &directive_a().encode()),
+            "There is no role 256: the register has roles 0 to 3.\n\
+             There is no origin 16: origins are 0 to 15.\n\
+             There is no purpose 11: purposes are 0 to 10.",
+        ),
+        (
+            preview_by(requester_q(), &[]),
+            "The draft has 0 bytes; a draft has 25.",
         ),
     ];
     for (call, expected) in cases {
@@ -319,6 +384,11 @@ fn malformed_replays() {
         (
             after(&[0x12, 0, 3, 0, 0, 0]),
             "At offset 63 (0x3F): the value of an advance has 4 bytes, and the length says 3.",
+        ),
+        (
+            after(&[0x17, 0, 5, 0, 0, 0, 0, 0]),
+            "At offset 63 (0x3F): the value of a preview has at least 6 bytes, and the length \
+             says 5.",
         ),
         (
             after(&[0x10, 0, 25, 1]),
@@ -543,6 +613,13 @@ fn lines_of_another_program() {
         (Kind::Brief, "0 2 1 2", "discloses records 1, 64; count 2"),
         (Kind::Brief, "0 2 1 3", "discloses records 1, 64; count 3, and 2 bits are set"),
         (Kind::Brief, "0 2 1", "no line that a brief can get"),
+        (Kind::Preview, "0 6 1 3", "would change records 1, 2, 64; count 3"),
+        (Kind::Preview, "0 6 1 2", "would change records 1, 2, 64; count 2, and 3 bits are set"),
+        (Kind::Preview, "0 0 0 0", "would change no record; count 0"),
+        (Kind::Preview, "13 7", "refused by question 13: Is it free of conflict with the active directives? No, with directive 7."),
+        (Kind::Preview, "13", "no line that a preview can get"),
+        (Kind::Preview, "0", "no line that a preview can get"),
+        (Kind::Preview, "15", "refused by question 15: Is a directive of that number active? (never put to a preview)"),
         (Kind::Write, &write, "written: edition 2, patient person 7, clock at minute 1000, 4 roles, 3 records, no directives; 56 bytes"),
         (Kind::Write, &longer, "written: edition 2, patient person 7, clock at minute 1000, 4 roles, 3 records, no directives; 56 bytes, and the line says 57"),
         (Kind::Write, "0 2 0100", "written: 2 bytes that are refused as a card by question 1"),

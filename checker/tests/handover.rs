@@ -67,7 +67,7 @@ fn cuts_fall_in_heads_and_in_values() {
     for kind in [InputKind::Card, InputKind::Replay] {
         let mut in_heads = 0;
         let mut in_values = 0;
-        for input in inputs(1, 3200, 3200).filter(|input| input.kind == kind) {
+        for input in inputs(1, 6400, 6400).filter(|input| input.kind == kind) {
             let start = match (kind, &input.bytes[..]) {
                 (InputKind::Replay, [high, low, ..]) => {
                     2 + usize::from(u16::from_be_bytes([*high, *low]))

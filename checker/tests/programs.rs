@@ -245,7 +245,7 @@ fn bench_stores_its_inputs() {
     let output = run(&["bench", path_text(&path)], &[]);
     assert!(output.status.success());
     let list = text(&output.stdout);
-    assert_eq!(list.lines().count(), 8);
+    assert_eq!(list.lines().count(), 10);
     for line in list.lines() {
         let words: Vec<&str> = line.split(' ').collect();
         let [name, kind, count, timed] = words[..] else {

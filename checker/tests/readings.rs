@@ -4,9 +4,9 @@ use checker::bytes::field;
 use checker::card;
 use checker::cardcheck::cardcheck;
 use checker::directive::Fields;
-use checker::ledger::{Basis, Brief, Dropped, Ledger};
+use checker::ledger::{Basis, Dropped, Ledger};
 use checker::refusal::Refusal;
-use checker::register::{Reach, Record};
+use checker::register::{Reach, Record, RecordWords};
 use checker::request::Query;
 
 use crate::support::*;
@@ -959,7 +959,7 @@ fn a_brief_for_another_person_or_number() {
 fn issue_and_brief_on_the_empty_ledger() {
     let mut ledger = Ledger::default();
     assert_eq!(ledger.issue(0, 0, 0xFF, 240), Ok(()));
-    let nothing = Brief {
+    let nothing = RecordWords {
         words: [0, 0],
         count: 0,
     };
@@ -988,7 +988,7 @@ fn a_brief_has_a_bit_for_each_record() {
             .filter(|state| states >> state & 1 == 1)
             .fold(0, |union, state| union | scopes[state]);
         let word = scope | scope << 16 | scope << 32 | scope << 48;
-        let brief = Brief {
+        let brief = RecordWords {
             words: [word, word],
             count: 8 * scope.count_ones(),
         };

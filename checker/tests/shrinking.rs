@@ -49,6 +49,51 @@ fn commit_call(draft: checker::directive::Fields) -> Call {
     }
 }
 
+/// A preview with a change among calls that have nothing to do with it.
+#[test]
+fn a_change_is_left_with_its_preview() {
+    let preview = Call::Preview {
+        requester: requester_q(),
+        draft: directive_a().encode().to_vec(),
+    };
+    let calls = [
+        Call::Decide(query_q()),
+        commit_call(numbered(77, draft(DENY, (PERSON, 900), 2, 0))),
+        preview,
+        Call::Write { buffer: 500 },
+    ];
+    let replay = encode(&sample().bytes(), &calls);
+    let changes = |bytes: &[u8]| {
+        Replay::new(bytes)
+            .any(|answer| matches!(answer, Answer::Preview(Ok(shown)) if shown.changed() != 0))
+    };
+    assert!(changes(&replay));
+    let Shrunk { bytes, bound, .. } = shrunk(&replay, BOUNDS, changes);
+    assert_eq!(bound, None);
+    let text = disassemble(Kind::Replay, &bytes);
+    let calls: Vec<&str> = text
+        .lines()
+        .skip_while(|line| !line.starts_with("preview "))
+        .collect();
+    assert_eq!(calls.len(), 1, "{text}");
+    assert!(
+        text.contains("\nroles 0\n") && text.contains(" clock 0\n"),
+        "{text}"
+    );
+    // A draft of another length is dropped byte by byte.
+    let short = Call::Preview {
+        requester: requester_q(),
+        draft: vec![7; 40],
+    };
+    let refused = |bytes: &[u8]| {
+        Replay::new(bytes).any(|answer| answer == Answer::Preview(Err(Refusal::DraftLength)))
+    };
+    let Shrunk { bytes, .. } = shrunk(&encode(&sample().bytes(), &[short]), BOUNDS, refused);
+    let text = disassemble(Kind::Replay, &bytes);
+    let expected = "replay\npreview person 1 role 0 origin 0 purpose 0 draft bytes\n";
+    assert_eq!(text, expected);
+}
+
 /// K5 among calls that have nothing to do with it.
 #[test]
 fn a_conflict_is_left_with_its_two_directives() {

@@ -6,13 +6,14 @@ use std::fs;
 use std::ops::RangeInclusive;
 use std::path::PathBuf;
 
+use checker::access::{draft_of, Asking};
 use checker::answer::Answer;
 use checker::bytes::Bytes;
 use checker::card;
 use checker::cardcheck::cardcheck;
 use checker::counts::{Asked, Counts, Kind};
 use checker::directive::Fields;
-use checker::generate::inputs;
+use checker::generate::{asking, inputs, Input, InputKind};
 use checker::ledger::Ledger;
 use checker::replay::{encode, Call, Replay};
 
@@ -27,8 +28,8 @@ const LINES: RangeInclusive<usize> = 200..=300;
 /// prints the whole card.
 const WRITES: usize = 3;
 
-const CALLS: [&str; 7] = [
-    "commit", "revoke", "advance", "issue", "decide", "brief", "write",
+const CALLS: [&str; 8] = [
+    "commit", "revoke", "advance", "issue", "decide", "brief", "write", "preview",
 ];
 
 /// "Write: has the register a record? 23." An accepted card has one.
@@ -166,11 +167,14 @@ fn generated(seed: u64) -> Option<(Parts, Vec<Parts>)> {
     Some((chosen, later))
 }
 
-/// The calls of the chosen replay, and then of the later ones that show an
-/// answer not shown so far, while there is room for their lines. Before these
-/// the clock goes on to that of their card, and its directives are committed.
+/// Previews, the calls of the chosen replay, and then of the later ones that
+/// show an answer not shown so far, while there is room for their lines. Before
+/// these the clock goes on to that of their card, and its directives are
+/// committed. Previews at the end show what those at the start cannot.
 fn composed(chosen: &Parts, later: Vec<Parts>) -> Vec<u8> {
-    let mut calls = few_writes(chosen.calls.clone());
+    let mut calls = previews(&chosen.ledger, &Counts::default());
+    calls.extend(chosen.calls.clone());
+    let mut calls = few_writes(calls);
     let mut so_far = counts_of(&encode(&chosen.card, &calls));
     for replay in later {
         let mut more = calls.clone();
@@ -192,7 +196,39 @@ fn composed(chosen: &Parts, later: Vec<Parts>) -> Vec<u8> {
             so_far = then;
         }
     }
+    let mut ledger = chosen.ledger.clone();
+    for call in &calls {
+        call.run(&mut ledger);
+    }
+    calls.extend(previews(&ledger, &so_far));
     encode(&chosen.card, &calls)
+}
+
+/// Previews on this ledger, one for each answer not shown so far.
+fn previews(ledger: &Ledger, so_far: &Counts) -> Vec<Call> {
+    let mut card = vec![0; usize::from(u16::MAX)];
+    let length = card::write(ledger, &mut card).expect("there is a record");
+    card.truncate(length);
+    let mut shown = so_far.clone();
+    let mut calls = Vec::new();
+    for index in 0..REPLAYS {
+        let Asking { requester, draft } = asking(&Input {
+            kind: InputKind::Card,
+            seed: 0,
+            index,
+            bytes: card.clone(),
+        });
+        let Some(draft) = draft.as_deref().and_then(draft_of) else {
+            continue;
+        };
+        let call = Call::Preview { requester, draft };
+        let answer = call.run(&mut ledger.clone());
+        if shown.of(Kind::of(&answer)) == 0 {
+            shown.add(&answer);
+            calls.push(call);
+        }
+    }
+    calls
 }
 
 /// The calls without the later writes into the longest buffer.

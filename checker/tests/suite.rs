@@ -1,6 +1,7 @@
 //! The tests of the checker, as one program.
 
 mod access;
+mod access_drafts;
 mod balance;
 mod bench;
 mod cases;
@@ -16,6 +17,7 @@ mod generator;
 mod handover;
 mod near_readings;
 mod order;
+mod preview;
 mod programs;
 mod questions;
 mod readings;

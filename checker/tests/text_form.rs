@@ -7,7 +7,9 @@ use checker::directive::Fields;
 use checker::generate::{inputs, InputKind};
 use checker::random::Random;
 use checker::replay::{encode, Call, Replay};
-use checker::text_form::{assemble, disassemble, unmet, Assembled, Expected, Kind, TextError};
+use checker::text_form::{
+    assemble, disassemble, draft as draft_of_words, unmet, Assembled, Expected, Kind, TextError,
+};
 
 use crate::support::*;
 
@@ -65,9 +67,10 @@ fn generated_inputs_round_trip() {
         "decide",
         "brief",
         "write",
+        "preview",
         "call",
     ];
-    let mut counts = [0; 16];
+    let mut counts = [0; 17];
     for input in inputs(61, 2000, 1500) {
         let text = round_trips(kind(input.kind), &input.bytes);
         for (count_of_word, word) in counts.iter_mut().zip(words) {
@@ -150,6 +153,12 @@ fn the_longest_items_round_trip() {
     };
     let text = round_trips(Kind::Replay, &encode(&[], &[commit]));
     assert_eq!(text, "replay\ncommit bytes 07*65535\n");
+    let preview = Call::Preview {
+        requester: requester_q(),
+        draft: vec![7; 65_529],
+    };
+    let text = round_trips(Kind::Replay, &encode(&[], &[preview]));
+    assert!(text.ends_with(" draft bytes 07*65529\n"), "{text}");
 }
 
 /// A replay with every call, and its canonical text.
@@ -171,6 +180,13 @@ issue 9 person 600 states 0x01 length 30
 decide person 600 role 1 origin 1 record 1 purpose 0
 brief 9 person 600
 write 4096
+preview person 600 role 1 origin 1 purpose 0 draft 2 permit person 600 origins 0x0002 record 1 \
+reach 0 po 0x000F ps 0x0001 pt 0x01 purposes 0x0001 from 1500 until 4294967295
+preview person 600 role 1 origin 1 purpose 0 draft 1 deny role 1 record 0 reach 2 purposes absent \
+from 1000 until 2000
+preview person 600 role 1 origin 1 purpose 0 draft bytes 00 01 02
+preview person 600 role 1 origin 1 purpose 0 draft bytes
+call 0x17 bytes 02 58 00 01 01
 ";
     let permit = Fields {
         subject_origins: 0x0002,
@@ -181,6 +197,10 @@ write 4096
         ..over(1500, u32::MAX, draft(PERMIT, (PERSON, 600), 1, 0))
     };
     let commit = |draft: &[u8]| Call::Commit {
+        draft: draft.to_vec(),
+    };
+    let preview = |draft: &[u8]| Call::Preview {
+        requester: requester_q(),
         draft: draft.to_vec(),
     };
     let calls = [
@@ -200,8 +220,13 @@ write 4096
             person: 600,
         },
         Call::Write { buffer: 4096 },
+        preview(&permit.encode()),
+        preview(&directive_a().encode_edition_1()),
+        preview(&[0, 1, 2]),
+        preview(&[]),
     ];
-    let replay = encode(&sample().with(&[directive_a()]).bytes(), &calls);
+    let mut replay = encode(&sample().with(&[directive_a()]).bytes(), &calls);
+    replay.extend(field(0x17, &[0x02, 0x58, 0x00, 0x01, 0x01]));
     assert_eq!(bytes(text), replay);
     assert_eq!(disassemble(Kind::Replay, &replay), text);
 }
@@ -244,6 +269,32 @@ fn a_draft_out_of_all_ranges() {
     assert_eq!(bytes(text), card);
 }
 
+/// The words of a commit give the draft that the commit has.
+#[test]
+fn the_words_of_a_draft() {
+    for words in [
+        "2 deny role 1 record 0 reach 2 from 1000 until 2000",
+        "commit 2 deny role 1 record 0 reach 2 from 1000 until 2000",
+        "7 effect 3 kind 9 subject 1 origins {} record 255 reach 9 purposes absent from 1 until 0",
+        "bytes 00 0102",
+        "commit bytes",
+    ] {
+        let words_of_commit = words.strip_prefix("commit ").unwrap_or(words);
+        let replay = bytes(&format!("replay\ncommit {words_of_commit}"));
+        let draft = draft_of_words(words).expect("there is a draft");
+        assert_eq!(replay, encode(&[], &[Call::Commit { draft }]));
+    }
+    for (words, message) in [
+        ("", "draft takes a number from 0 to 65535"),
+        ("2 deny role 1", "draft lacks record"),
+        ("x deny", "draft takes a number from 0 to 65535, not x"),
+        ("2 deny role 1 recrd 0", "expected deny, permit, effect"),
+    ] {
+        let error = draft_of_words(words).expect_err("there is no draft");
+        assert!(error.message.starts_with(message), "{error}");
+    }
+}
+
 #[test]
 fn values_out_of_range_stay_readable() {
     let texts = [
@@ -253,6 +304,7 @@ fn values_out_of_range_stay_readable() {
         "replay\nissue 65535 person 65535 states 0x00 length 4294967295\n",
         "replay\nissue 0 person 0 states all length 0\n",
         "replay\ndecide person 65535 role 65535 origin 255 record 255 purpose 255\n",
+        "replay\npreview person 65535 role 65535 origin 255 purpose 255 draft bytes\n",
     ];
     for text in texts {
         let found = assembled(text);
@@ -421,13 +473,13 @@ fn errors_name_the_word_and_what_was_expected() {
             2,
             1,
             "expected edition, roles, record, directive, field, bytes, commit, revoke, advance, \
-             issue, decide, brief, write, call or expect, not replay",
+             issue, decide, brief, write, preview, call or expect, not replay",
         ),
         (
             "replay\nrevoke 1\nroles 0",
             3,
             1,
-            "expected commit, revoke, advance, issue, decide, brief, write, call, bytes or expect, \
+            "expected commit, revoke, advance, issue, decide, brief, write, preview, call, bytes or expect, \
              not roles",
         ),
         (
@@ -677,6 +729,36 @@ fn errors_name_the_word_and_what_was_expected() {
             "a value has at most 65535 bytes, not 65536",
         ),
         (
+            "replay\npreview person 1 role 2 origin 3 purpose 4 draft bytes 00*65530",
+            2,
+            44,
+            "a value has at most 65535 bytes, not 65536",
+        ),
+        (
+            "replay\npreview person 1 role 2 origin 3 draft bytes",
+            2,
+            1,
+            "preview lacks purpose",
+        ),
+        (
+            "replay\npreview person 1 role 2 origin 3 purpose 4",
+            2,
+            1,
+            "preview lacks draft",
+        ),
+        (
+            "replay\npreview person 1 role 2 origin 3 purpose 4 draft 1 deny role 1",
+            2,
+            44,
+            "draft lacks record",
+        ),
+        (
+            "replay\npreview person 1 role 2 origin 3 purpose 4 record 1 draft bytes",
+            2,
+            44,
+            "expected person, role, origin or purpose, not record",
+        ),
+        (
             "replay\nbytes 00*65535\nbytes 00",
             3,
             1,
@@ -920,5 +1002,5 @@ fn the_errors_of_the_document_are_the_ones_given() {
         assert_eq!(found.to_string(), cells[3]);
         count += 1;
     }
-    assert_eq!(count, 7);
+    assert_eq!(count, 8);
 }

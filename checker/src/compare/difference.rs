@@ -137,8 +137,9 @@ impl Difference {
 impl fmt::Display for Difference {
     fn fmt(&self, f: &mut fmt::Formatter<'_>) -> fmt::Result {
         let input = &self.task.input;
-        if let Some(requester) = self.task.requester {
-            writeln!(f, "arguments {}", requester.arguments().join(" "))?;
+        if let Some(asking) = &self.task.asking {
+            let arguments: Vec<String> = asking.arguments().iter().map(|one| quoted(one)).collect();
+            writeln!(f, "arguments {}", arguments.join(" "))?;
         }
         match input.bytes.split_at_checked(SHOWN) {
             Some((start, rest)) if !rest.is_empty() => {
@@ -153,7 +154,7 @@ impl fmt::Display for Difference {
             writeln!(f, "in parts of {} bytes", lengths.join(", "))?;
         }
         if self.end != self.expected_end {
-            if self.task.requester.is_some() {
+            if self.task.asking.is_some() {
                 writeln!(f, "checker: {}", self.expected_end)?;
             }
             writeln!(f, "program: {}", self.end)?;
@@ -164,6 +165,15 @@ impl fmt::Display for Difference {
         writeln!(f, "line {}", line.number)?;
         writeln!(f, "checker {}", line_shown(line.checker.as_deref()))?;
         writeln!(f, "program {}", line_shown(line.program.as_deref()))
+    }
+}
+
+/// An argument as a shell takes it.
+fn quoted(argument: &str) -> String {
+    if argument.is_empty() || argument.contains(' ') {
+        format!("'{argument}'")
+    } else {
+        argument.to_string()
     }
 }
 

@@ -5,7 +5,9 @@ use crate::bytes::{push_field, Bytes};
 use crate::card::{DIRECTIVE, HEAD, RECORD, ROLES};
 use crate::directive::{ALL_PURPOSES, LENGTH, LENGTH_EDITION_1};
 use crate::generate::InputKind;
-use crate::replay::{ADVANCE, BRIEF, COMMIT, DECIDE, ISSUE, REVOKE, WRITE};
+use crate::replay::{
+    ADVANCE, BRIEF, COMMIT, DECIDE, ISSUE, PREVIEW, REQUESTER_LENGTH, REVOKE, WRITE,
+};
 
 /// What a number stands for. Equal numbers of one sense go together.
 #[derive(Clone, Copy, Debug, PartialEq, Eq, PartialOrd, Ord)]
@@ -294,8 +296,25 @@ fn units(tag: u8, value: &[u8]) -> Option<Vec<Unit>> {
         ),
         BRIEF => cut(value, &[(Sense::Token, 2), (Sense::Person, 2)]),
         WRITE => cut(value, &[(Sense::Plain, 2)]),
+        PREVIEW => preview(value),
         _ => None,
     }
+}
+
+/// The requester, and the draft in its numbers or its bytes.
+fn preview(value: &[u8]) -> Option<Vec<Unit>> {
+    let (requester, draft) = value.split_at_checked(REQUESTER_LENGTH)?;
+    let mut units = cut(
+        requester,
+        &[
+            (Sense::Person, 2),
+            (Sense::Role, 2),
+            (Sense::Plain, 1),
+            (Sense::Plain, 1),
+        ],
+    )?;
+    units.extend(self::units(COMMIT, draft).unwrap_or_else(|| raw(draft)));
+    Some(units)
 }
 
 fn roles(value: &[u8]) -> Vec<Unit> {

@@ -17,9 +17,9 @@ mod task;
 use std::io;
 use std::time::Duration;
 
-use crate::access::Requester;
+use crate::access::Asking;
 use crate::counts::Asked;
-use crate::generate::{requester, Input, InputKind};
+use crate::generate::{asking, Input, InputKind};
 use crate::parts::parts;
 
 pub use difference::{Class, Difference, Line};
@@ -65,18 +65,18 @@ impl Programs {
         }
     }
 
-    /// Whose access to ask `access` for, with this input.
-    fn requester(&self, input: &Input) -> Option<Requester> {
+    /// What to ask `access`, with this input.
+    fn asking(&self, input: &Input) -> Option<Asking> {
         let asked = self.access.is_some() && input.kind == InputKind::Card;
-        asked.then(|| requester(input))
+        asked.then(|| asking(input))
     }
 
     /// The program for this task, with its arguments.
     fn of(&self, task: &Task) -> Option<Program> {
-        match (task.requester, task.input.kind) {
-            (Some(requester), _) => {
+        match (&task.asking, task.input.kind) {
+            (Some(asking), _) => {
                 let program = self.access.as_ref()?;
-                Some(program.with_arguments(requester.arguments()))
+                Some(program.with_arguments(asking.arguments()))
             }
             (None, InputKind::Card) => self.cardcheck.clone(),
             (None, InputKind::Replay) => self.replay.clone(),

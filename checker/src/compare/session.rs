@@ -98,17 +98,17 @@ impl<'a, W: Write> Session<'a, W> {
         }
         let mut task = Task {
             input,
-            requester: None,
+            asking: None,
         };
         if self.ends_at(&task, &expected)? {
             return Ok(true);
         }
-        task.requester = self.programs.requester(&task.input);
-        let Some(requester) = task.requester else {
+        task.asking = self.programs.asking(&task.input);
+        let Some(asking) = &task.asking else {
             return Ok(false);
         };
-        let access = access(task.input.bytes.as_slice(), requester)?;
-        self.access_counts.add(&access);
+        let access = access(task.input.bytes.as_slice(), asking)?;
+        self.access_counts.add(asking, &access);
         self.ends_at(&task, &Expected::of_access(&access))
     }
 

@@ -3,17 +3,18 @@
 use std::io;
 
 use super::process::End;
-use crate::access::{access, Access, Requester};
+use crate::access::{access, Access, Asking};
 use crate::answer::Answer;
 use crate::cardcheck::cardcheck;
 use crate::generate::{Input, InputKind};
 use crate::replay::Replay;
 
-/// An input for `cardcheck` or `replay`, or with a requester one for `access`.
+/// An input for `cardcheck` or `replay`, or with what is asked one for
+/// `access`.
 #[derive(Clone, Debug, PartialEq, Eq)]
 pub struct Task {
     pub input: Input,
-    pub requester: Option<Requester>,
+    pub asking: Option<Asking>,
 }
 
 /// The lines that a program has to print, what they answer, and its end.
@@ -54,11 +55,9 @@ pub fn answers(input: &Input) -> io::Result<Vec<Answer>> {
 
 impl Task {
     pub fn expected(&self) -> io::Result<Expected> {
-        Ok(match self.requester {
+        Ok(match &self.asking {
             None => Expected::of_answers(answers(&self.input)?),
-            Some(requester) => {
-                Expected::of_access(&access(self.input.bytes.as_slice(), requester)?)
-            }
+            Some(asking) => Expected::of_access(&access(self.input.bytes.as_slice(), asking)?),
         })
     }
 
@@ -74,7 +73,7 @@ impl Task {
                 index,
                 bytes: bytes.to_vec(),
             },
-            requester: self.requester,
+            asking: self.asking.clone(),
         }
     }
 
@@ -82,7 +81,7 @@ impl Task {
     pub fn has_end(&self, end: End) -> bool {
         match end {
             End::Normal => true,
-            End::Status(status) => self.requester.is_some() && status == 1,
+            End::Status(status) => self.asking.is_some() && [1, 2].contains(&status),
             End::Signal(_) | End::NoEnd(_) | End::TooLong(_) => false,
         }
     }
@@ -91,7 +90,7 @@ impl Task {
     /// for two programs.
     pub fn small_name(&self) -> String {
         let name = self.input.file_name();
-        let small = match self.requester {
+        let small = match self.asking {
             None => "small",
             Some(_) => "access.small",
         };

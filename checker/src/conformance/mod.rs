@@ -44,6 +44,8 @@ mod near_readings;
 
 mod order;
 
+mod previews;
+
 mod redundancy;
 
 mod tokens;
@@ -55,7 +57,8 @@ mod writing;
 pub enum Source {
     /// Numbers of docs/DECISIONS.md, one blank between.
     Decisions(&'static str),
-    /// Words of document 01, or of its demands, that decide alone.
+    /// Words of document 01, of its demands, or of a request of document 02,
+    /// that decide alone.
     Says(&'static str),
 }
 
@@ -110,6 +113,7 @@ pub fn cases() -> Vec<Case> {
         lists::cases(),
         cards::cases(),
         briefs::cases(),
+        previews::cases(),
         format::cases(),
         examples::cases(),
     ]

@@ -4,7 +4,7 @@ use crate::bytes::field;
 use crate::card;
 use crate::directive::Fields;
 use crate::register::Record;
-use crate::request::Query;
+use crate::request::{Query, Requester};
 
 pub const DENY: u8 = 0;
 pub const PERMIT: u8 = 1;
@@ -147,6 +147,11 @@ pub fn over(from: u32, until: u32, draft: Fields) -> Fields {
 /// "A: number 1, deny, role 1, record 0, reach 2."
 pub fn directive_a() -> Fields {
     numbered(1, draft(DENY, (ROLE, 1), 0, 2))
+}
+
+/// Who asks in Q.
+pub fn requester_q() -> Requester {
+    query_q().requester()
 }
 
 /// "Q: person 600, role 1, origin 1, record 1, purpose 0."

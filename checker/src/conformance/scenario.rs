@@ -4,7 +4,7 @@
 use crate::bytes::{field, hex};
 use crate::directive::Fields;
 use crate::replay::{self, Call};
-use crate::request::Query;
+use crate::request::{Query, Requester};
 
 use super::sample::{sample, Card};
 
@@ -104,6 +104,15 @@ impl Scenario {
 
     pub fn write(self, buffer: u16, line: &str) -> Scenario {
         self.call(&Call::Write { buffer }, line)
+    }
+
+    pub fn preview(self, requester: Requester, draft: Fields, line: &str) -> Scenario {
+        self.preview_bytes(requester, &draft.encode(), line)
+    }
+
+    pub fn preview_bytes(self, requester: Requester, draft: &[u8], line: &str) -> Scenario {
+        let draft = draft.to_vec();
+        self.call(&Call::Preview { requester, draft }, line)
     }
 
     /// A write with a buffer that is long enough, and the card it must give.

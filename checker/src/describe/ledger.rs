@@ -3,12 +3,11 @@
 
 use super::sets;
 use super::values::{self, counted};
-use crate::access::Requester;
 use crate::directive::{Directive, Effect, Fields, Subject};
 use crate::layout;
 use crate::ledger::{scope, Ledger, Token};
 use crate::register::Record;
-use crate::request::{Query, Request};
+use crate::request::{Query, Request, Requester};
 
 /// The words of one ledger.
 #[derive(Clone, Copy)]

@@ -2,7 +2,8 @@
 
 use super::line::{decimal, question_in_words};
 use super::{answer, call, card_words, Explained};
-use crate::access::{Access, Requester};
+use crate::access::{draft_of, Access, Asking};
+use crate::answer::Answer;
 use crate::card::{Reading, Stage};
 use crate::cardcheck::CARD_LIMIT;
 use crate::describe::{decision, Words};
@@ -10,17 +11,22 @@ use crate::directive::Effect;
 use crate::kind::Kind;
 use crate::ledger::{Basis, Decision, Ledger};
 use crate::replay::Call;
+use crate::request::Requester;
 
 /// Explains the line at this place, counted from 0, that `access` prints for
-/// this input and requester.
-pub fn access_line(input: &[u8], requester: Requester, place: usize) -> Option<Explained> {
+/// this input and what is asked.
+pub fn access_line(input: &[u8], asking: &Asking, place: usize) -> Option<Explained> {
     let card = input.get(..usize::from(CARD_LIMIT)).unwrap_or(input);
+    let draft = match &asking.draft {
+        None => None,
+        Some(argument) => Some(draft_of(argument)?),
+    };
     let reading = Reading::of(card);
     let (access, kind, words) = match (&reading.stage, reading.stop) {
         (Stage::Register { ledger, .. }, None) => {
-            let access = Access::of(ledger, requester);
-            let words = requester_words(ledger, requester, &access, place)?;
-            (access, Kind::Decide, words)
+            let access = Access::of(ledger, asking.requester, draft.as_deref());
+            let (kind, words) = in_words(ledger, asking.requester, draft, &access, place)?;
+            (access, kind, words)
         }
         (_, Some(stop)) => {
             let words = card_words(card, &reading);
@@ -36,52 +42,87 @@ pub fn access_line(input: &[u8], requester: Requester, place: usize) -> Option<E
     })
 }
 
-/// The request on the record of this place and its decision, or who asks and
-/// why they are refused.
-fn requester_words(
+/// The request on the record of this place, its decision and what the draft
+/// makes of it; or who asks, with what draft, and why that is refused.
+fn in_words(
     ledger: &Ledger,
     requester: Requester,
+    draft: Option<Vec<u8>>,
     access: &Access,
     place: usize,
-) -> Option<Vec<String>> {
-    let query = requester.query(u8::try_from(place).ok()?);
-    let call = Call::Decide(query);
-    let mut words = match access {
-        Access::Table(_) => vec![call::in_words(ledger, &call)],
-        _ => vec![format!(
-            "Access: {}.",
-            Words::of(ledger).requester(requester)
-        )],
+) -> Option<(Kind, Vec<String>)> {
+    let decide = Call::Decide(requester.query(u8::try_from(place).ok()?));
+    let (call, answer, change) = match (access, draft) {
+        (Access::Preview(preview), _) => {
+            let (_, before, after) = preview.decisions().nth(place)?;
+            let change = answer::change(before, after);
+            let change = change.unwrap_or_else(|| "no change.".to_string());
+            let answer = Answer::Decide(Ok(before));
+            (decide, answer, Some(format!("With the draft: {change}")))
+        }
+        (Access::DraftRefused(refusal) | Access::RequesterRefused(refusal), Some(draft)) => {
+            let call = Call::Preview { requester, draft };
+            (call, Answer::Preview(Err(*refusal)), None)
+        }
+        _ => (decide, access.answers().get(place).cloned()?, None),
     };
-    let answer = access.answers().get(place).cloned()?;
+    let asked = match access {
+        Access::RequesterRefused(_) => {
+            format!("Access: {}.", Words::of(ledger).requester(requester))
+        }
+        _ => call::in_words(ledger, &call),
+    };
+    let mut words = vec![asked];
     words.extend(answer::in_words(ledger, ledger, &call, &answer));
-    Some(words)
+    words.extend(change);
+    Some((Kind::of_call(&call), words))
 }
 
 /// What a line says that a program prints as `access`, also where it is
 /// wrong.
 pub fn access_in_words(line: &str) -> String {
     let words = match line.split_once(": ") {
-        Some(("card refused", rest)) => refused(Kind::Card, rest),
-        Some(("requester refused", rest)) => refused(Kind::Decide, rest),
+        Some(("card refused", rest)) => refused("card", Kind::Card, rest),
+        Some(("draft refused", rest)) => refused("draft", Kind::Commit, rest),
+        Some(("requester refused", rest)) => refused("requester", Kind::Decide, rest),
         Some((record, rest)) => decided(record, rest),
         None => None,
     };
     words.unwrap_or_else(|| "no line that access can print".to_string())
 }
 
-fn refused(kind: Kind, rest: &str) -> Option<String> {
-    let number = decimal(rest.strip_prefix("question ")?)?;
+fn refused(what: &str, kind: Kind, rest: &str) -> Option<String> {
+    let rest = rest.strip_prefix("question ")?;
+    let (number, named) = match rest.split_once(", directive ") {
+        Some((number, named)) => (number, Some(decimal::<u16>(named)?)),
+        None => (rest, None),
+    };
+    let number = decimal(number)?;
     let words = question_in_words(Some(kind), number)?;
-    Some(match kind {
-        Kind::Card => format!("the card is {words}"),
-        _ => format!("the requester is {words}"),
-    })
+    match (kind, number, named) {
+        (Kind::Commit, 13, Some(named)) => {
+            Some(format!("the {what} is {words} No, with directive {named}."))
+        }
+        (Kind::Commit, 13, None) | (_, _, Some(_)) => None,
+        _ => Some(format!("the {what} is {words}")),
+    }
 }
 
 fn decided(record: &str, rest: &str) -> Option<String> {
     let record: u8 = decimal(record.strip_prefix("record ")?)?;
-    let (effect, basis) = rest.split_once(", basis ")?;
+    let words = match rest.split_once(", changes to ") {
+        Some((before, after)) => {
+            let (before, after) = (decision_of(before)?, decision_of(after)?);
+            format!("{}, changes to {}", decision(before), decision(after))
+        }
+        None => decision(decision_of(rest)?),
+    };
+    Some(format!("on record {record}: {words}"))
+}
+
+/// The decision as a table has it.
+fn decision_of(text: &str) -> Option<Decision> {
+    let (effect, basis) = text.split_once(", basis ")?;
     let effect = match effect {
         "permit" => Effect::Permit,
         "deny" => Effect::Deny,
@@ -96,6 +137,5 @@ fn decided(record: &str, rest: &str) -> Option<String> {
             Basis::Directive(decimal(number.strip_suffix(')')?)?)
         }
     };
-    let words = decision(Decision { effect, basis });
-    Some(format!("on record {record}: {words}"))
+    Some(Decision { effect, basis })
 }

@@ -2,12 +2,13 @@
 
 use crate::answer::Answer;
 use crate::card::{Edition, Reading, Stage};
-use crate::describe::{counted, decision, labels, members, records, refused, states, Words};
+use crate::describe::{basis, counted, decision, labels, members, records, refused, states, Words};
 use crate::directive::Effect;
-use crate::ledger::{scope, Basis, Brief, Decision, Ledger};
+use crate::ledger::{scope, Basis, Decision, Ledger};
+use crate::preview::Preview;
 use crate::reason;
 use crate::refusal::Refusal;
-use crate::register::RecordSet;
+use crate::register::{set_of_words, RecordWords};
 use crate::replay::Call;
 use crate::request::{has_bit, Query, TREATMENT};
 
@@ -29,6 +30,7 @@ pub fn in_words(before: &Ledger, after: &Ledger, call: &Call, answer: &Answer) -
             disclosed(before, *number, *brief)
         }
         (Call::Write { .. }, Answer::Write(Ok(card))) => written(card),
+        (_, Answer::Preview(Ok(preview))) => return previewed(preview),
         _ => String::new(),
     };
     vec![line]
@@ -42,6 +44,7 @@ fn refusal(answer: &Answer) -> Option<Refusal> {
         Answer::Decide(result) => result.err(),
         Answer::Brief(result) => result.err(),
         Answer::Write(result) => result.as_ref().err().copied(),
+        Answer::Preview(result) => result.as_ref().err().copied(),
         Answer::Malformed => None,
     }
 }
@@ -145,7 +148,7 @@ fn default_consent(ledger: &Ledger, query: &Query, effect: Effect) -> String {
 }
 
 /// The records of a brief, and the labels in its scope.
-fn disclosed(ledger: &Ledger, number: u16, brief: Brief) -> String {
+fn disclosed(ledger: &Ledger, number: u16, brief: RecordWords) -> String {
     let mut tokens = ledger.tokens().iter();
     let token = tokens.find(|token| token.number == number);
     let set = token.map_or(0, |token| token.states);
@@ -155,14 +158,42 @@ fn disclosed(ledger: &Ledger, number: u16, brief: Brief) -> String {
         brief.count,
         labels(scope(set)),
         states(set),
-        records(disclosed_set(brief.words)),
+        records(set_of_words(brief.words)),
     )
 }
 
-/// The records of a brief's two words.
-pub fn disclosed_set([low, high]: [u64; 2]) -> RecordSet {
-    let high = u128::from(high).checked_shl(u64::BITS).unwrap_or(0);
-    high | u128::from(low)
+/// Which records would change, each before and after, and those whose basis
+/// alone would.
+fn previewed(preview: &Preview) -> Vec<String> {
+    let all = counted(preview.before.len(), "record");
+    let changed = preview.changed();
+    let mut lines = vec![match changed {
+        0 => format!("Would change no decision on {all}."),
+        _ => format!(
+            "Would change {} of {all}: {}.",
+            changed.count_ones(),
+            records(changed)
+        ),
+    }];
+    for (record, before, after) in preview.decisions() {
+        let change = change(before, after);
+        lines.extend(change.map(|change| format!("- record {record}: {change}")));
+    }
+    lines
+}
+
+/// What becomes of a decision; nothing where it stays with its basis.
+pub fn change(before: Decision, after: Decision) -> Option<String> {
+    if before == after {
+        return None;
+    }
+    let words = decision(before);
+    Some(if before.effect == after.effect {
+        let after = basis(after.basis);
+        format!("{words}, gets {after}. A new basis alone is no change.")
+    } else {
+        format!("{words}, becomes {}.", decision(after))
+    })
 }
 
 fn written(card: &[u8]) -> String {

@@ -9,7 +9,7 @@ use crate::replay::Call;
 pub fn in_words(ledger: &Ledger, call: &Call) -> String {
     let words = Words::of(ledger);
     match call {
-        Call::Commit { draft } => commit(&words, draft),
+        Call::Commit { draft } => format!("Commit{}.", a_draft(&words, draft)),
         Call::Revoke { number } => format!("Revoke directive {number}."),
         Call::Advance { minute } => {
             let clock = ledger.clock();
@@ -37,12 +37,18 @@ pub fn in_words(ledger: &Ledger, call: &Call) -> String {
             let buffer = counted(usize::from(*buffer), "byte");
             format!("Write the card into a buffer of {buffer}.")
         }
+        Call::Preview { requester, draft } => format!(
+            "Preview{}; {}.",
+            a_draft(&words, draft),
+            words.requester(*requester)
+        ),
     }
 }
 
-fn commit(words: &Words, draft: &[u8]) -> String {
+/// What stands after the name of a call with this draft.
+fn a_draft(words: &Words, draft: &[u8]) -> String {
     match <&[u8; LENGTH]>::try_from(draft) {
-        Ok(bytes) => format!("Commit: {}.", words.draft(&Fields::decode(bytes))),
-        Err(_) => format!("Commit a draft of {}.", counted(draft.len(), "byte")),
+        Ok(bytes) => format!(": {}", words.draft(&Fields::decode(bytes))),
+        Err(_) => format!(" a draft of {}", counted(draft.len(), "byte")),
     }
 }

@@ -1,10 +1,12 @@
 //! A line of any program in words.
 
-use super::answer::{card_bytes, disclosed_set};
+use super::answer::card_bytes;
+use crate::bytes::{from_hex, hex};
 use crate::describe::{counted, decision, question, records};
 use crate::directive::Effect;
 use crate::kind::Kind;
 use crate::ledger::{Basis, Decision};
+use crate::register::set_of_words;
 
 /// What the line says as the answer to a card or a call of this kind, also
 /// where it is wrong. Without a kind: whether it accepts or refuses.
@@ -43,7 +45,12 @@ fn accepted(kind: Kind, results: &[&str]) -> Option<String> {
         }
         (Kind::Decide, [effect, basis, number @ ..]) => decided(effect, basis, number),
         (Kind::Brief, [low, high, count]) => {
-            disclosed(decimal(low)?, decimal(high)?, decimal(count)?)
+            let records = in_words(decimal(low)?, decimal(high)?, decimal(count)?);
+            Some(format!("discloses {records}"))
+        }
+        (Kind::Preview, [low, high, count]) => {
+            let records = in_words(decimal(low)?, decimal(high)?, decimal(count)?);
+            Some(format!("would change {records}"))
         }
         (Kind::Write, [length, hex]) => written(decimal(length)?, hex),
         _ => None,
@@ -72,20 +79,21 @@ fn decided(effect: &str, basis: &str, number: &[&str]) -> Option<String> {
     })
 }
 
-fn disclosed(low: u64, high: u64, count: u32) -> Option<String> {
-    let set = disclosed_set([low, high]);
-    let disclosed = records(set);
+/// The records of two words, and their count.
+fn in_words(low: u64, high: u64, count: u32) -> String {
+    let set = set_of_words([low, high]);
+    let records = records(set);
     let ones = set.count_ones();
-    Some(if count == ones {
-        format!("discloses {disclosed}; count {count}")
+    if count == ones {
+        format!("{records}; count {count}")
     } else {
-        format!("discloses {disclosed}; count {count}, and {ones} bits are set")
-    })
+        format!("{records}; count {count}, and {ones} bits are set")
+    }
 }
 
-/// The card that is written in hexadecimal.
-fn written(length: usize, hex: &str) -> Option<String> {
-    let card = from_hex(hex)?;
+/// The card that is written in lowercase hexadecimal.
+fn written(length: usize, text: &str) -> Option<String> {
+    let card = from_hex(text).filter(|card| hex(card) == text)?;
     let bytes = card_bytes(&card);
     Some(if card.len() == length {
         format!("written: {bytes}")
@@ -94,30 +102,16 @@ fn written(length: usize, hex: &str) -> Option<String> {
     })
 }
 
-/// The bytes of lowercase hexadecimal digits.
-fn from_hex(text: &str) -> Option<Vec<u8>> {
-    let digit = |byte: u8| match byte {
-        b'0'..=b'9' => byte.checked_sub(b'0'),
-        b'a'..=b'f' => byte.checked_sub(b'a')?.checked_add(10),
-        _ => None,
-    };
-    let pair = |pair: &[u8]| match pair {
-        [high, low] => Some(digit(*high)?.checked_shl(4)? | digit(*low)?),
-        _ => None,
-    };
-    text.as_bytes().chunks(2).map(pair).collect()
-}
-
 fn refused(kind: Kind, number: &str, results: &[&str]) -> Option<String> {
     let number = decimal(number)?;
     let words = question_in_words(Some(kind), number)?;
     match (kind, number, results) {
         (Kind::Card, _, ["0", "0"]) => Some(words),
-        (Kind::Commit, 13, [named]) => {
+        (Kind::Commit | Kind::Preview, 13, [named]) => {
             let named: u16 = decimal(named)?;
             Some(format!("{words} No, with directive {named}."))
         }
-        (Kind::Card, _, _) | (Kind::Commit, 13, _) => None,
+        (Kind::Card, _, _) | (Kind::Commit | Kind::Preview, 13, _) => None,
         (_, _, []) => Some(words),
         _ => None,
     }

@@ -1,13 +1,14 @@
 //! Lists of calls on a scene's ledger.
 
 use super::drafts;
+use super::previews::previews;
 use super::scene::{Profile, Scene, TriedToken};
 use crate::directive::{Fields, LENGTH};
 use crate::ledger::{Ledger, MAX_ACTIVE, MAX_TOKENS, MAX_TOKEN_LENGTH};
 use crate::random::Random;
 use crate::register::Reach;
 use crate::replay::Call;
-use crate::request::{Query, ORIGINS, PURPOSES};
+use crate::request::{Query, Requester, ORIGINS, PURPOSES};
 
 pub fn calls(scene: &mut Scene, random: &mut Random) -> Vec<Call> {
     let mut calls = Vec::new();
@@ -78,8 +79,12 @@ fn fill(scene: &Scene, random: &mut Random, calls: &mut Vec<Call>) {
 /// One call, or a few that belong together.
 fn step(scene: &mut Scene, random: &mut Random, calls: &mut Vec<Call>) {
     match random.range(0, 99) {
-        0..=41 => commits(scene, random, calls),
-        42..=66 => calls.push(Call::Decide(query(scene, random))),
+        0..=33 => {
+            let drafts = drafts::next(scene, random).into_iter();
+            calls.extend(drafts.map(|draft| Call::Commit { draft }));
+        }
+        34..=47 => previews(scene, random, calls),
+        48..=66 => calls.push(Call::Decide(query(scene, random))),
         67..=73 => calls.push(revoke(scene, random)),
         74..=80 => calls.push(advance(scene, random)),
         81..=88 => issues(scene, random, calls),
@@ -107,34 +112,23 @@ fn end(scene: &mut Scene, random: &mut Random, calls: &mut Vec<Call>) {
     }
 }
 
-fn commits(scene: &mut Scene, random: &mut Random, calls: &mut Vec<Call>) {
-    let drafts = match random.range(0, 99) {
-        0..=44 => vec![drafts::plain(scene, random)],
-        45..=59 => drafts::cover(scene, random),
-        60..=74 => vec![drafts::opposite(scene, random)],
-        75..=80 => vec![drafts::near_baseline(scene, random)],
-        81..=86 => {
-            let index = random.index(scene.drafts.len());
-            scene.drafts.get(index).copied().into_iter().collect()
+/// Decides for this requester on every record of a small register, or on some
+/// of a large one.
+pub fn decide_some(
+    scene: &Scene,
+    random: &mut Random,
+    requester: Requester,
+    calls: &mut Vec<Call>,
+) {
+    let records: Vec<u8> = match scene.profile {
+        Profile::Small | Profile::Edge => {
+            let records = scene.register.numbered_records();
+            records.map(|(number, _)| number).collect()
         }
-        87..=95 => {
-            let draft = drafts::plain(scene, random);
-            vec![drafts::wrong(scene, random, draft)]
-        }
-        _ => {
-            let mut draft = drafts::plain(scene, random).encode().to_vec();
-            let length = random.pick(&[0, 1, 23, 24, 26, 27, 300]);
-            draft.resize(length, 0xFF);
-            calls.push(Call::Commit { draft });
-            return;
-        }
+        Profile::Full => (0..4).map(|_| scene.record(random)).collect(),
     };
-    for draft in drafts {
-        calls.push(Call::Commit {
-            draft: draft.encode().to_vec(),
-        });
-        scene.drafts.push(draft);
-    }
+    let queries = records.into_iter().map(|record| requester.query(record));
+    calls.extend(queries.map(Call::Decide));
 }
 
 fn revoke(scene: &Scene, random: &mut Random) -> Call {
@@ -258,15 +252,20 @@ fn write(scene: &Scene, random: &mut Random, directives: usize) -> Call {
     Call::Write { buffer }
 }
 
-/// A request that an earlier draft most often matches, or any one.
-fn query(scene: &Scene, random: &mut Random) -> Query {
-    let mut query = Query {
+/// A request of one of the scene's persons.
+pub fn plain_query(scene: &Scene, random: &mut Random) -> Query {
+    Query {
         person: random.pick(&scene.persons),
         role: scene.role(random),
         origin: random.member(scene.origins),
         record: scene.record(random),
         purpose: random.pick(&[0, 0, 0, 1, 10]),
-    };
+    }
+}
+
+/// A request that an earlier draft most often matches, or any one.
+fn query(scene: &Scene, random: &mut Random) -> Query {
+    let mut query = plain_query(scene, random);
     let index = random.index(scene.drafts.len());
     if let (Some(draft), true) = (scene.drafts.get(index), random.chance(65)) {
         aim(scene, random, draft, &mut query);
@@ -278,7 +277,7 @@ fn query(scene: &Scene, random: &mut Random) -> Query {
 }
 
 /// Points the query at what the draft matches.
-fn aim(scene: &Scene, random: &mut Random, draft: &Fields, query: &mut Query) {
+pub fn aim(scene: &Scene, random: &mut Random, draft: &Fields, query: &mut Query) {
     let register = &scene.register;
     if draft.kind == 0 {
         query.person = draft.subject;
@@ -302,7 +301,7 @@ fn aim(scene: &Scene, random: &mut Random, draft: &Fields, query: &mut Query) {
 }
 
 /// Changes one part of the query, in or out of its range.
-fn change(scene: &Scene, random: &mut Random, query: &mut Query) {
+pub fn change(scene: &Scene, random: &mut Random, query: &mut Query) {
     let roles = u16::try_from(scene.register.roles().len()).unwrap_or(0);
     let records = u8::try_from(scene.register.records().len()).unwrap_or(0);
     match random.range(0, 11) {

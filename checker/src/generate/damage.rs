@@ -5,6 +5,7 @@ use crate::card::{DIRECTIVE, HEAD, RECORD, ROLES};
 use crate::cardcheck::CARD_LIMIT;
 use crate::random::Random;
 use crate::register::MAX_RECORDS;
+use crate::replay::{PREVIEW, REQUESTER_LENGTH};
 
 /// Where the value of a field starts.
 const VALUE: usize = 3;
@@ -220,16 +221,17 @@ pub fn with_long_field(fields: &[Vec<u8>], tag: u8, more: usize) -> Vec<u8> {
     bytes
 }
 
-/// A replay that is cut, has an unknown or wrong call, or flipped bits.
+/// A replay that is cut, has an unknown or wrong call, a preview of less than
+/// a requester, or flipped bits.
 pub fn replay(mut bytes: Vec<u8>, random: &mut Random) -> Vec<u8> {
-    match random.range(0, 9) {
+    match random.range(0, 10) {
         0 => bytes.truncate(random.index(4)),
         1 => {
-            let tag = random.pick(&[0x00, 0x01, 0x0F, 0x17, 0x90, 0xFF]);
+            let tag = random.pick(&[0x00, 0x01, 0x0F, 0x18, 0x90, 0xFF]);
             bytes.extend(field(tag, &[0, 0]));
         }
         2..=4 => {
-            let tag = random.pick(&[0x11, 0x12, 0x13, 0x14, 0x15, 0x16]);
+            let tag = random.pick(&[0x11, 0x12, 0x13, 0x14, 0x15, 0x16, 0x17]);
             let length = random.pick(&[0, 1, 2, 3, 4, 5, 6, 7, 8, 9, 10]);
             bytes.extend(field(tag, &vec![0; length]));
             bytes.extend(field(0x10, &[]));
@@ -239,6 +241,10 @@ pub fn replay(mut bytes: Vec<u8>, random: &mut Random) -> Vec<u8> {
             if let Some(byte) = bytes.first_mut() {
                 *byte = length;
             }
+        }
+        6 => {
+            let length = random.index(REQUESTER_LENGTH);
+            bytes.extend(field(PREVIEW, &vec![0; length]));
         }
         _ => damage_bytes(&mut bytes, random),
     }

@@ -39,6 +39,34 @@ pub fn spoil_one(scene: &Scene, random: &mut Random, directives: &mut [Fields]) 
     }
 }
 
+/// The bytes of the next draft, or of some that belong together: of every
+/// kind, at times of another length.
+pub fn next(scene: &mut Scene, random: &mut Random) -> Vec<Vec<u8>> {
+    let drafts = match random.range(0, 99) {
+        0..=44 => vec![plain(scene, random)],
+        45..=59 => cover(scene, random),
+        60..=74 => vec![opposite(scene, random)],
+        75..=80 => vec![near_baseline(scene, random)],
+        81..=86 => {
+            let index = random.index(scene.drafts.len());
+            scene.drafts.get(index).copied().into_iter().collect()
+        }
+        87..=95 => {
+            let draft = plain(scene, random);
+            vec![wrong(scene, random, draft)]
+        }
+        _ => {
+            let mut draft = plain(scene, random).encode().to_vec();
+            let length = random.pick(&[0, 1, 23, 24, 26, 27, 300]);
+            draft.resize(length, 0xFF);
+            return vec![draft];
+        }
+    };
+    scene.drafts.extend(&drafts);
+    let bytes = drafts.iter().map(|draft| draft.encode().to_vec());
+    bytes.collect()
+}
+
 /// A draft that passes questions 7 to 9, but for a clock at the last minutes.
 pub fn plain(scene: &Scene, random: &mut Random) -> Fields {
     let effect = match scene.effects {
@@ -82,6 +110,32 @@ pub fn plain(scene: &Scene, random: &mut Random) -> Fields {
         draft.pt |= 1 << (record.record_type & 7);
     }
     draft
+}
+
+/// A draft that has begun, over everything under the root.
+pub fn wide(scene: &Scene, random: &mut Random) -> Fields {
+    Fields {
+        record: 0,
+        reach: 2,
+        po: u16::MAX,
+        ps: u16::MAX,
+        pt: u8::MAX,
+        from: scene.clock,
+        until: scene.clock.saturating_add(scene.span),
+        ..plain(scene, random)
+    }
+}
+
+/// An earlier draft under a new number.
+pub fn again(scene: &Scene, random: &mut Random) -> Fields {
+    let index = random.index(scene.drafts.len());
+    match scene.drafts.get(index) {
+        Some(earlier) => Fields {
+            number: fresh_number(scene, random),
+            ..*earlier
+        },
+        None => plain(scene, random),
+    }
 }
 
 /// Keeps permits and denies apart as the scene says, where that leaves

@@ -5,7 +5,7 @@ use super::scene::{Profile, Scene};
 use super::{calls, card_fields, damage, drafts};
 use crate::card;
 use crate::random::Random;
-use crate::replay::{encode, Call};
+use crate::replay::{encode, Call, REQUESTER_LENGTH};
 
 /// How many calls a replay of many has at least.
 pub const MANY_CALLS: usize = 70_000;
@@ -34,12 +34,16 @@ fn on_card(card: &[u8], scene: &mut Scene, random: &mut Random) -> Vec<u8> {
     encode(card, &calls)
 }
 
-/// A commit of the longest value between other calls.
+/// A commit and a preview of the longest value between other calls.
 pub fn value(random: &mut Random) -> Vec<u8> {
     let mut scene = Scene::new(Profile::Small, random);
     let card = card_fields(&scene, &[]).concat();
     let mut calls = calls::calls(&mut scene, random);
     calls.push(long_commit(&scene, random));
+    calls.push(Call::Preview {
+        requester: calls::plain_query(&scene, random).requester(),
+        draft: long_draft(&scene, random, LONGEST.saturating_sub(REQUESTER_LENGTH)),
+    });
     calls.extend(calls::calls(&mut scene, random));
     encode(&card, &calls)
 }
@@ -55,11 +59,17 @@ pub fn value_not_whole(random: &mut Random) -> Vec<u8> {
     bytes
 }
 
-/// A draft, and zeros up to the longest value.
 fn long_commit(scene: &Scene, random: &mut Random) -> Call {
+    Call::Commit {
+        draft: long_draft(scene, random, LONGEST),
+    }
+}
+
+/// A draft, and zeros up to this length.
+fn long_draft(scene: &Scene, random: &mut Random, length: usize) -> Vec<u8> {
     let mut draft = drafts::plain(scene, random).encode().to_vec();
-    draft.resize(LONGEST, 0);
-    Call::Commit { draft }
+    draft.resize(length, 0);
+    draft
 }
 
 /// Calls after a card of the longest length. It ends with a field without a

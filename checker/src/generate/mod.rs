@@ -1,10 +1,12 @@
-//! The seeded generator of cards and replays, and of requesters for cards. An
-//! input depends on the seed and its index alone.
+//! The seeded generator of cards and replays, and of what `access` is asked
+//! with a card. An input depends on the seed and its index alone.
 
+mod asking;
 mod calls;
 mod damage;
 mod drafts;
 mod long;
+mod previews;
 mod requester;
 mod scene;
 
@@ -13,6 +15,7 @@ use crate::card;
 use crate::directive::Fields;
 use crate::random::Random;
 use crate::replay;
+pub use asking::asking;
 pub use long::{LONGEST, MANY_CALLS};
 pub use requester::requester;
 use scene::{Profile, Scene};

@@ -1,14 +1,13 @@
 //! Requesters for cards.
 
 use super::Input;
-use crate::access::Requester;
 use crate::card::{Reading, Stage};
 use crate::cardcheck::CARD_LIMIT;
 use crate::directive::{Directive, Subject};
 use crate::ledger::Ledger;
 use crate::random::Random;
 use crate::register::Record;
-use crate::request::{ORIGINS, PURPOSES};
+use crate::request::{Requester, ORIGINS, PURPOSES};
 
 /// The requester that the seed and the index of a card give: the patient, an
 /// author, a person that a directive names, or another one. Most often a
@@ -16,9 +15,7 @@ use crate::request::{ORIGINS, PURPOSES};
 /// times a part of it is out of its range.
 pub fn requester(card: &Input) -> Requester {
     let mut random = Random::of_input(card.seed, 5, card.index);
-    let limit = usize::from(CARD_LIMIT);
-    let bytes = card.bytes.get(..limit).unwrap_or(&card.bytes);
-    let ledger = read_so_far(bytes);
+    let ledger = read_so_far(card);
     let mut requester = plain(&ledger, &mut random);
     let directive = random.index(ledger.active().len());
     if let (Some(directive), true) = (ledger.active().get(directive), random.chance(60)) {
@@ -31,8 +28,10 @@ pub fn requester(card: &Input) -> Requester {
 }
 
 /// The ledger up to the card's end or its refusal.
-fn read_so_far(card: &[u8]) -> Ledger {
-    match Reading::of(card).stage {
+pub fn read_so_far(card: &Input) -> Ledger {
+    let limit = usize::from(CARD_LIMIT);
+    let bytes = card.bytes.get(..limit).unwrap_or(&card.bytes);
+    match Reading::of(bytes).stage {
         Stage::Register { ledger, .. } => ledger,
         Stage::Start | Stage::Head(_) => Ledger::default(),
     }

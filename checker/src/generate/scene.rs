@@ -55,7 +55,7 @@ pub struct Scene {
     /// Most directives are on one record and one person.
     pub narrow: bool,
     pub effects: Effects,
-    /// Directives of the card and of commits, accepted or not.
+    /// Directives of the card, of commits and of previews, accepted or not.
     pub drafts: Vec<Fields>,
     pub tokens: Vec<TriedToken>,
 }
@@ -94,6 +94,32 @@ impl Scene {
             narrow,
             effects,
             drafts: Vec::new(),
+            tokens: Vec::new(),
+        }
+    }
+
+    /// The scene of a ledger that a card gave.
+    pub fn of(ledger: &Ledger, random: &mut Random) -> Scene {
+        let records = ledger.register().records();
+        let union = |set: fn(&Record) -> u16| records.iter().fold(0, |union, one| union | set(one));
+        let mut persons = vec![ledger.patient()];
+        persons.extend(records.iter().map(|record| record.author));
+        persons.extend((0..4).map(|_| random.u16()));
+        Scene {
+            profile: Profile::Small,
+            edition: 2,
+            patient: ledger.patient(),
+            clock: ledger.clock(),
+            register: ledger.register().clone(),
+            persons,
+            origins: union(|record| record.origins),
+            sensitivities: union(|record| record.sensitivities),
+            purposes: ALL_PURPOSES,
+            span: 20,
+            stride: u32::MAX,
+            narrow: false,
+            effects: Effects::Mixed,
+            drafts: ledger.active().iter().map(Directive::fields).collect(),
             tokens: Vec::new(),
         }
     }

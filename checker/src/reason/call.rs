@@ -7,7 +7,7 @@ use crate::kind::Kind;
 use crate::ledger::{Ledger, MAX_TOKENS, MAX_TOKEN_LENGTH};
 use crate::refusal::Refusal;
 use crate::replay::Call;
-use crate::request::{Query, ORIGINS, PURPOSES};
+use crate::request::{Requester, ORIGINS, PURPOSES};
 
 /// What is wrong with the call on this ledger.
 pub fn reason(ledger: &Ledger, call: &Call, refusal: Refusal) -> Vec<String> {
@@ -16,9 +16,13 @@ pub fn reason(ledger: &Ledger, call: &Call, refusal: Refusal) -> Vec<String> {
         Call::Revoke { .. } => vec![not_active(ledger)],
         Call::Advance { .. } => vec![format!("The clock is at minute {}.", ledger.clock())],
         Call::Issue { number, length, .. } => vec![issue(ledger, *number, *length, refusal)],
-        Call::Decide(query) => outside(ledger, query),
+        Call::Decide(query) => outside(ledger, query.requester(), Some(query.record)),
         Call::Brief { number, .. } => vec![no_token(ledger, *number)],
         Call::Write { buffer } => vec![write(ledger, *buffer, refusal)],
+        Call::Preview { requester, .. } if refusal == Refusal::QueryRange => {
+            outside(ledger, *requester, None)
+        }
+        Call::Preview { draft, .. } => draft::bytes(ledger, draft, refusal),
     }
 }
 
@@ -36,29 +40,31 @@ fn not_active(ledger: &Ledger) -> String {
     }
 }
 
-/// Question 17.
-fn outside(ledger: &Ledger, query: &Query) -> Vec<String> {
+/// Question 17, where a record is named with its record.
+fn outside(ledger: &Ledger, requester: Requester, record: Option<u8>) -> Vec<String> {
     let register = ledger.register();
+    let Requester {
+        role,
+        origin,
+        purpose,
+        ..
+    } = requester;
     let mut wrong = Vec::new();
-    if !register.has_role(query.role) {
-        let role = query.role;
+    if !register.has_role(role) {
         wrong.push(format!("There is no role {role}: {}.", roles_of(register)));
     }
-    if register.record(query.record).is_none() {
-        let record = query.record;
+    if let Some(record) = record.filter(|record| register.record(*record).is_none()) {
         let records = records_of(register);
         wrong.push(format!("There is no record {record}: {records}."));
     }
-    if query.origin >= ORIGINS {
+    if origin >= ORIGINS {
         let last = ORIGINS.saturating_sub(1);
-        let origin = query.origin;
         wrong.push(format!(
             "There is no origin {origin}: origins are 0 to {last}."
         ));
     }
-    if query.purpose >= PURPOSES {
+    if purpose >= PURPOSES {
         let last = PURPOSES.saturating_sub(1);
-        let purpose = query.purpose;
         wrong.push(format!(
             "There is no purpose {purpose}: purposes are 0 to {last}."
         ));
@@ -155,15 +161,13 @@ pub fn malformed_call(rest: &[u8], offset: usize) -> Vec<String> {
     let mut wrong = Vec::new();
     match Kind::of_tag(*tag) {
         None => wrong.push(format!("{at}: no call has the tag {}.", hex_byte(*tag))),
-        Some(kind) => {
-            let other = |wanted: &usize| *wanted != usize::from(length);
-            if let Some(wanted) = kind.value_length().filter(other) {
-                let call = kind.phrase();
-                wrong.push(format!(
-                    "{at}: the value of {call} has {wanted} bytes, and the length says {length}."
-                ));
-            }
+        Some(kind) if !kind.value_length().allows(length) => {
+            let (call, wanted) = (kind.phrase(), kind.value_length());
+            wrong.push(format!(
+                "{at}: the value of {call} has {wanted}, and the length says {length}."
+            ));
         }
+        Some(_) => {}
     }
     if value.len() < usize::from(length) {
         let left = counted(value.len(), "byte");

@@ -4,7 +4,7 @@ use crate::describe::{records, Words};
 use crate::directive::{Directive, Fields, Subject, ALL_PURPOSES, LENGTH};
 use crate::ledger::{Ledger, MAX_ACTIVE};
 use crate::refusal::Refusal;
-use crate::register::{record_bit, Register};
+use crate::register::Register;
 use crate::witness::{baseline_request, cover, shared_request, Cover};
 
 /// What is wrong with the bytes of a draft.
@@ -206,11 +206,8 @@ fn redundant(ledger: &Ledger, draft: &Directive) -> Vec<String> {
 
 /// Why the draft selects no record.
 fn selects_nothing(register: &Register, draft: &Directive) -> String {
-    let reached = register
-        .numbered_records()
-        .map(|(number, _)| number)
-        .filter(|number| register.reaches(draft.record, draft.reach, *number))
-        .fold(0, |set, number| set | record_bit(number));
+    let reached =
+        register.records_where(|number, _| register.reaches(draft.record, draft.reach, number));
     match reached {
         0 => format!("there is no record under record {}", draft.record),
         _ => format!(

@@ -136,7 +136,9 @@ fn read_roles(item: Word, words: &[Word]) -> Result<Vec<u8>, TextError> {
         .iter()
         .map(|word| number(words::ROLES, *word))
         .collect();
-    Ok(field(ROLES, &raw::short_enough(item, parents?)?))
+    let parents = parents?;
+    raw::short_enough(item, parents.len())?;
+    Ok(field(ROLES, &parents))
 }
 
 /// Nothing where the length is another one than 1..16.

@@ -31,6 +31,8 @@
 //!              decide person N role N origin N record N purpose N
 //!              brief N person N
 //!              write N
+//!              preview person N role N origin N purpose N draft DRAFT
+//!              preview person N role N origin N purpose N draft bytes [BYTES ..]
 //!              call N bytes [BYTES ..]
 //!              bytes [BYTES ..]
 //!              expect LINE
@@ -52,7 +54,8 @@
 //!   too. Nothing else has a default.
 //! - `purposes absent` gives the 23 bytes without purposes, `purposes SET`
 //!   the 25. Where purposes are not named, a directive after an `edition 1`
-//!   item has 23 bytes, any other directive and a commit 25.
+//!   item has 23 bytes, any other directive, a commit and a preview's draft
+//!   25.
 //! - A list has the bits of a set, `{0,3}` is 0x0009; a number is the set
 //!   itself.
 //! - A record may say its number, counted from 0 over the `record` items.
@@ -69,8 +72,10 @@
 //! order above, full sets of a draft left out, other sets as `all` or in
 //! hexadecimal, numbers in decimal, each record with its number. A field or
 //! call of another tag or length than the items have stands as `field`,
-//! `call` or `commit bytes`, what does not stand whole as `bytes`, with eight
-//! or more equal bytes as a pair, `*` and how often.
+//! `call`, `commit bytes` or `draft bytes`, what does not stand whole as
+//! `bytes`, with eight or more equal bytes as a pair, `*` and how often.
+//!
+//! [`draft`] makes the bytes of a draft from the words of a commit.
 
 mod assemble;
 mod calls;
@@ -88,6 +93,7 @@ use std::error::Error;
 use std::fmt;
 
 pub use assemble::assemble;
+pub use calls::draft;
 pub use disassemble::disassemble;
 pub use expected::{unmet, Expected, Unmet};
 

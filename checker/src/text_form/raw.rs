@@ -6,7 +6,7 @@ use super::line::Word;
 use super::value::{fitting, number, range};
 use super::words::BYTES;
 use super::TextError;
-use crate::bytes::field;
+use crate::bytes::{field, from_hex};
 
 /// So many equal bytes or more are written as a run.
 const SHORTEST_RUN: usize = 8;
@@ -21,7 +21,7 @@ pub fn bytes(words: &[Word]) -> Result<Vec<u8>, TextError> {
     for word in words {
         let found = match word.text.split_once('*') {
             Some((pair, count)) => run(pair, count),
-            None => pairs(word.text),
+            None => from_hex(word.text),
         };
         let wrong = || word.error(format!("expected bytes as 03 0A or 00*12, not {word}"));
         bytes.extend(found.ok_or_else(wrong)?);
@@ -29,41 +29,28 @@ pub fn bytes(words: &[Word]) -> Result<Vec<u8>, TextError> {
     Ok(bytes)
 }
 
-fn pairs(text: &str) -> Option<Vec<u8>> {
-    let digits: Option<Vec<u8>> = text.chars().map(digit).collect();
-    let digits = digits.filter(|digits| !digits.is_empty())?;
-    let pair = |pair: &[u8]| match pair {
-        [high, low] => Some(high << 4 | low),
-        _ => None,
-    };
-    digits.chunks(2).map(pair).collect()
-}
-
-fn digit(character: char) -> Option<u8> {
-    u8::try_from(character.to_digit(16)?).ok()
-}
-
 fn run(pair: &str, count: &str) -> Option<Vec<u8>> {
-    let [byte] = *pairs(pair)? else {
+    let [byte] = *from_hex(pair)? else {
         return None;
     };
     let count: u16 = fitting(count)?;
     Some(vec![byte; usize::from(count)])
 }
 
-/// The value, if its length fits two bytes; else an error at this word.
-pub fn short_enough(word: Word, value: Vec<u8>) -> Result<Vec<u8>, TextError> {
-    let length = value.len();
+/// An error at this word where the length of a value does not fit two bytes.
+pub fn short_enough(word: Word, length: usize) -> Result<(), TextError> {
     if length > LONGEST_VALUE {
         let message = format!("a value has at most {LONGEST_VALUE} bytes, not {length}");
         return Err(word.error(message));
     }
-    Ok(value)
+    Ok(())
 }
 
 /// The bytes of a value after its word `bytes`.
 pub fn value(mark: Word, words: &[Word]) -> Result<Vec<u8>, TextError> {
-    short_enough(mark, bytes(words)?)
+    let value = bytes(words)?;
+    short_enough(mark, value.len())?;
+    Ok(value)
 }
 
 /// The field of an item `field N bytes ..` or `call N bytes ..`.

@@ -23,10 +23,11 @@ pub const ISSUE: &str = "issue";
 pub const DECIDE: &str = "decide";
 pub const BRIEF: &str = "brief";
 pub const WRITE: &str = "write";
+pub const PREVIEW: &str = "preview";
 pub const CALL: &str = "call";
 
 pub const CALL_ITEMS: &[&str] = &[
-    COMMIT, REVOKE, ADVANCE, ISSUE, DECIDE, BRIEF, WRITE, CALL, BYTES,
+    COMMIT, REVOKE, ADVANCE, ISSUE, DECIDE, BRIEF, WRITE, PREVIEW, CALL, BYTES,
 ];
 
 // What gives no bytes, or the length of a replay's card.
@@ -62,6 +63,7 @@ pub const UNTIL: &str = "until";
 pub const STATES: &str = "states";
 pub const ORIGIN: &str = "origin";
 pub const PURPOSE: &str = "purpose";
+pub const DRAFT: &str = "draft";
 
 // Values that are words.
 
@@ -102,6 +104,7 @@ pub const RECORD_FORM: Form = naming(
 );
 pub const ISSUE_FORM: Form = naming(true, &[PERSON, STATES, LENGTH]);
 pub const DECIDE_FORM: Form = naming(false, &[PERSON, ROLE, ORIGIN, RECORD, PURPOSE]);
+pub const REQUESTER_FORM: Form = naming(false, &[PERSON, ROLE, ORIGIN, PURPOSE]);
 pub const BRIEF_FORM: Form = naming(true, &[PERSON]);
 pub const DRAFT_FORM: Form = Form {
     numbered: true,
