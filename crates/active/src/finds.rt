@@ -33,7 +33,7 @@ pub fn is_active(l: ActiveList, number: u16) -> bool
     false
 }
 
-// The records that the last directive selects; free where the list is empty.
+// The records that the last directive selects; free where the list is empty or does not keep its invariant.
 pub fn last_selection(l: ActiveList) -> RecordSet
     ensures { λ w. ⌜ ((rs : List Held) (ds : List Given) (d : Given) → ActiveInvariant rs l → directivesOf l ≡ ds ++ (d ∷ []) → w ≡ recordSetOf (selects rs d)) ⌝ }
 {

@@ -12,13 +12,13 @@ use lib.ListN.{length, drop, getD}
 use lib.Seq.{drop-cons, drop-length}
 use Rattle.sets.specs.Quantifiers.{allIn}
 use Rattle.sets.proofs.Quantifiers.{and-both, either-way}
-use Rattle.arguments.specs.Decimal.{isDigit, digitOf, valueFrom, value, isDecimal, mostDigits, numberUpTo, Bounded}
+use Rattle.arguments.specs.Decimal.{isBetween, isDigit, digitOf, valueFrom, value, isDecimal, mostDigits, numberUpTo, Bounded}
 use Rattle.arguments.specs.declared.Parsed.the-variants.{Number, NotANumber}
 
-pub digit-bounds : (b : ℕ) → isDigit b ≡ true → (48 ≤ b) × (b ≤ 57)
-digit-bounds b e =
-    let (low, high) = and-both (leb 48 b) (leb b 57) e in
-    (leb-true 48 b low, leb-true b 57 high)
+pub between-bounds : (low b high : ℕ) → isBetween low b high ≡ true → (low ≤ b) × (b ≤ high)
+between-bounds low b high e =
+    let (above, below) = and-both (leb low b) (leb b high) e in
+    (leb-true low b above, leb-true b high below)
 
 -- what is left of the digits from place i on: the digit there, and what is left after it
 module _ (s : List ℕ) (i : ℕ) where

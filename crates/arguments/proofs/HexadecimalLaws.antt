@@ -6,21 +6,15 @@ use mathlib.Core.Bool.{true, false, and-false}
 use mathlib.Core.List.{List, [], _∷_, _++_}
 use native.Mathlib.Omega.{arith}
 use borrow.Author.Tests.{leb-true, le-leb, lt-leb}
-use lib.Dec.{leb}
 use lib.ListN.{length, drop, getD}
-use Rattle.sets.proofs.Quantifiers.{and-both, and-right, either-way}
+use Rattle.sets.proofs.Quantifiers.{and-right, either-way}
 use Rattle.arguments.specs.Decimal.{isDigit}
-use Rattle.arguments.specs.Hexadecimal.{isBetween, isSmall, isCapital, isHexDigit, hexDigitOf, bytesOf, isHexadecimal, isDecoded, Decodes, AtMost}
+use Rattle.arguments.specs.Hexadecimal.{isLowercase, isUppercase, isHexDigit, hexDigitOf, bytesOf, isHexadecimal, isDecoded, Decodes, AtMost}
 use Rattle.arguments.specs.declared.hexadecimal.Decoded.{Decoded}
 use Rattle.arguments.specs.declared.hexadecimal.Decoded.the-variants.{Bytes, NotBytes}
 
-pub between-bounds : (low b high : ℕ) → isBetween low b high ≡ true → (low ≤ b) × (b ≤ high)
-between-bounds low b high e =
-    let (above, below) = and-both (leb low b) (leb b high) e in
-    (leb-true low b above, leb-true b high below)
-
-pub a-capital : (b : ℕ) → isHexDigit b ≡ true → isDigit b ≡ false → isSmall b ≡ false → isCapital b ≡ true
-a-capital b e no-digit not-small = rw (no-digit, not-small) at e
+pub an-uppercase : (b : ℕ) → isHexDigit b ≡ true → isDigit b ≡ false → isLowercase b ≡ false → isUppercase b ≡ true
+an-uppercase b e no-digit no-lowercase = rw (no-digit, no-lowercase) at e
 
 pub bytes-length : (s : List ℕ) → length (bytesOf s) ≡ length s / 2
 unfolding bytesOf

@@ -8,9 +8,12 @@ use Rattle.sets.specs.Quantifiers.{pick, allIn}
 use Rattle.arguments.specs.declared.Parsed.{Parsed}
 use Rattle.arguments.specs.declared.Parsed.the-variants.{Number, NotANumber}
 
+abbrev pub isBetween : ℕ → ℕ → ℕ → Bool
+isBetween low b high = leb low b && leb b high
+
 -- the byte is an ASCII digit, from `0` to `9`
 abbrev pub isDigit : ℕ → Bool
-isDigit b = leb 48 b && leb b 57
+isDigit b = isBetween 48 b 57
 
 -- what the digit counts
 abbrev pub digitOf : ℕ → ℕ

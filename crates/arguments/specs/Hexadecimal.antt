@@ -6,27 +6,24 @@ use mathlib.Core.List.{List, [], _∷_, _++_}
 use lib.Dec.{eqb, leb}
 use lib.ListN.{length, drop}
 use Rattle.sets.specs.Quantifiers.{pick, allIn}
-use Rattle.arguments.specs.Decimal.{isDigit}
+use Rattle.arguments.specs.Decimal.{isBetween, isDigit, digitOf}
 use Rattle.arguments.specs.declared.hexadecimal.Decoded.{Decoded}
 use Rattle.arguments.specs.declared.hexadecimal.Decoded.the-variants.{Bytes, NotBytes}
 
-abbrev pub isBetween : ℕ → ℕ → ℕ → Bool
-isBetween low b high = leb low b && leb b high
-
 -- the byte is an ASCII letter from `a` to `f`
-abbrev pub isSmall : ℕ → Bool
-isSmall b = isBetween 97 b 102
+abbrev pub isLowercase : ℕ → Bool
+isLowercase b = isBetween 97 b 102
 
 -- the byte is an ASCII letter from `A` to `F`
-abbrev pub isCapital : ℕ → Bool
-isCapital b = isBetween 65 b 70
+abbrev pub isUppercase : ℕ → Bool
+isUppercase b = isBetween 65 b 70
 
 abbrev pub isHexDigit : ℕ → Bool
-isHexDigit b = isDigit b || isSmall b || isCapital b
+isHexDigit b = isDigit b || isLowercase b || isUppercase b
 
 -- what the digit counts: `a` and `A` count 10
 unfoldable pub hexDigitOf : ℕ → ℕ
-hexDigitOf b = pick (isDigit b) (b - 48) (pick (isSmall b) (b - 97 + 10) (b - 65 + 10))
+hexDigitOf b = pick (isDigit b) (digitOf b) (pick (isLowercase b) (b - 97 + 10) (b - 65 + 10))
 
 -- two digits a byte, the high one first
 unfoldable pub bytesOf : List ℕ → List ℕ

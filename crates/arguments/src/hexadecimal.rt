@@ -5,7 +5,7 @@ ghost use mathlib.Core.List.{_++_};
 ghost use Prim.Native.Nat.{_+_, _*_, _/_, _<_, _≤_};
 ghost use lib.ListN.{length, getD, drop};
 ghost use Rattle.sets.specs.Quantifiers.{allIn};
-ghost use Rattle.arguments.specs.Hexadecimal.{isBetween, isHexDigit, hexDigitOf, bytesOf, isHexadecimal, Decodes, DecodesAs, AtMost};
+ghost use Rattle.arguments.specs.Hexadecimal.{isHexDigit, hexDigitOf, bytesOf, isHexadecimal, Decodes, DecodesAs, AtMost};
 
 // The most digits that an argument may have.
 const MOST_HEX_DIGITS: usize = 1024;
@@ -14,26 +14,20 @@ const MOST_HEX_DIGITS: usize = 1024;
 pub enum Decoded {
     // so many bytes, at the start of the buffer
     Bytes(usize),
-    // anything else, more bytes than the buffer has room for among it; the buffer is as it was
+    // anything else, also more bytes than the buffer holds; the buffer is as it was
     NotBytes,
-}
-
-fn is_between(low: u8, b: u8, high: u8) -> bool
-    ensures { λ r. ⌜ r ≡ isBetween low b high ⌝ }
-{
-    low <= b && b <= high
 }
 
 fn is_hex_digit(b: u8) -> bool
     ensures { λ r. ⌜ r ≡ isHexDigit b ⌝ }
 {
-    if is_between(b'0', b, b'9') {
+    if crate::is_digit(b) {
         return true;
     }
-    if is_between(b'a', b, b'f') {
+    if crate::is_between(b'a', b, b'f') {
         return true;
     }
-    is_between(b'A', b, b'F')
+    crate::is_between(b'A', b, b'F')
 }
 
 // What a digit counts.
@@ -41,10 +35,10 @@ fn hex_digit_of(b: u8) -> u8
     requires { ⌜ isHexDigit b ≡ true ⌝ }
     ensures { λ r. ⌜ (r ≡ hexDigitOf b) × (r < 16) ⌝ }
 {
-    if is_between(b'0', b, b'9') {
+    if crate::is_digit(b) {
         return b - b'0';
     }
-    if is_between(b'a', b, b'f') {
+    if crate::is_between(b'a', b, b'f') {
         return b - b'a' + 10;
     }
     b - b'A' + 10
@@ -103,7 +97,7 @@ pub fn decode(text: &[u8], out: &mut [u8]) -> Decoded
     Decoded::Bytes(n)
 }
 
-// What an argument is decoded to that stands whole in the text, or not.
+// What an argument is decoded to; refused where it does not stand whole in the text.
 fn decode_as(whole: bool, text: &[u8], out: &mut [u8]) -> Decoded
     ensures { λ r. ⌜ DecodesAs whole (now (text .entry)) (now (out .entry)) r (now (out .exit)) ⌝ }
     ensures { λ r. ⌜ AtMost (length (now (out .entry))) r ⌝ }

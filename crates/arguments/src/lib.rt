@@ -1,10 +1,10 @@
-// A program's arguments, as decimal numbers here and as bytes in hexadecimal below.
+// A program's arguments, as decimal numbers here and as bytes in `hexadecimal`.
 ghost use mathlib.Core.Path.{_≡_};
 ghost use mathlib.Core.Bool.{true};
 ghost use Prim.Native.Nat.{_≤_};
 ghost use lib.ListN.{length};
 ghost use Rattle.sets.specs.Quantifiers.{allIn};
-ghost use Rattle.arguments.specs.Decimal.{isDigit, digitOf, value, mostDigits, numberUpTo, readAs, Bounded};
+ghost use Rattle.arguments.specs.Decimal.{isBetween, isDigit, digitOf, value, mostDigits, numberUpTo, readAs, Bounded};
 
 pub mod hexadecimal;
 
@@ -19,10 +19,16 @@ pub enum Parsed {
     NotANumber,
 }
 
+fn is_between(low: u8, b: u8, high: u8) -> bool
+    ensures { λ r. ⌜ r ≡ isBetween low b high ⌝ }
+{
+    low <= b && b <= high
+}
+
 fn is_digit(b: u8) -> bool
     ensures { λ r. ⌜ r ≡ isDigit b ⌝ }
 {
-    b'0' <= b && b <= b'9'
+    is_between(b'0', b, b'9')
 }
 
 // What a digit counts.

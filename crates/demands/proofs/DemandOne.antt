@@ -47,11 +47,11 @@ demand1 =
       issue = λ l n p states minutes r k gives. gives-answered _ (gives (meant-sound l k));
       decide = λ l q a k gives. answered _ (gives (meant-sound l k)) (λ _ same. same) (λ _ _ _. refl);
       brief = λ l n p a k gives. answered _ (gives (meant-sound l k)) (λ _ same. same) (λ _ _ _. refl);
-      preview = λ l s w r k e gives.
-          answered _ (gives .answer (meant-sound l k)) (λ _ same. (same, gives .ledger)) (λ _ _ _. gives .ledger);
       write = λ l before a after k gives.
           let fills = gives (meant-sound l k) in
           answered _ (fills .answer)
           (λ passed same. (same, fills .buffer ∙ rw passed))
           (λ q first _. fills .buffer ∙ rw (missed-fails first));
+      preview = λ l s w r k e gives.
+          answered _ (gives .answer (meant-sound l k)) (λ _ same. (same, gives .ledger)) (λ _ _ _. gives .ledger);
     }

@@ -70,7 +70,7 @@ foresight l s w r p reach bytes commits previews =
           ∙ rw (inside, ← (given .ledger))
           (ap done
           (shown-as-answered l (r .ledger) w a b before (given .invariant)
-          (ap (λ (m : Model). m .register .records) (given .ledger ∙ committed-last (view l) s w (accepts e)))
+          (ap (λ (m : Model). m .register .records) (given .ledger ∙ committed-last (view l) s (accepts e)))
           here
           there));
       draft-refused = λ e. answer ∙ sym (preview-refused (view l) s w (given .answer) e);

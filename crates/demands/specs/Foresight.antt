@@ -39,8 +39,8 @@ answersChange l a b x = hasRecord (recordsOf l) x && isChange (decideAnswer (a x
 
 -- A preview p of the draft's bytes s for the requester w, by any result r that commit may give on the same ledger.
 pub record Foreseen (l : Ledger) (s : List ℕ) (w : Requester) (r : CommitResult) (p : PreviewResult) : Type 0 where
-  -- "the records whose decision at the clock would change, as two 64-bit words and a count, laid out like a brief": for any answers that decide may give
-  -- on every record before the commit, a, and after it, b
+  -- "the records whose decision at the clock would change, as two 64-bit words and a count, laid out like a brief": for any answers
+  -- that decide may give on every record before the commit, a, and after it, b
   pub shown :
       accepted (commitAnswer (r .answer)) ≡ true → requesterPasses (view l .register) w ≡ true →
       (a b : ℕ → DecideAnswer) → DecidesAll l w a → DecidesAll (r .ledger) w b →

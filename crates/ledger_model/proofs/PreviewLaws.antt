@@ -23,9 +23,9 @@ use Rattle.validation_meaning.specs.Judgement.{meant}
 use Rattle.ledger_model.specs.Model.{Model}
 use Rattle.ledger_model.specs.Answer.{Answer, done, refused, accepted, values}
 use Rattle.ledger_model.specs.Decision.{matching, decision}
-use Rattle.ledger_model.specs.Questions.{ask, firstNo, passes, bytesQuestions}
-use Rattle.ledger_model.specs.Calls.{withLast, drafted, committedBy, committed, decided}
-use Rattle.ledger_model.specs.Preview.{hasEffect, permits, denies, isChange, decisionChanges, requesterPasses, previewQuestions, previewValues, previewed}
+use Rattle.ledger_model.specs.Questions.{firstNo, passes, bytesQuestions}
+use Rattle.ledger_model.specs.Calls.{withLast, afterCommit, committedBy, committed, decided}
+use Rattle.ledger_model.specs.Preview.{hasEffect, permits, denies, isChange, decisionChanges, requesterPasses, previewQuestions, comparedFor, previewed}
 use Rattle.ledger_model.proofs.Questions.{first-append, first-where, first-passed, first-accepted}
 
 -- one effect is not the other
@@ -33,7 +33,7 @@ one-effect : (vs : List ℕ) → hasEffect 1 vs ≡ true → hasEffect 0 vs ≡ 
 one-effect [] e = refl
 one-effect (v ∷ vs) e = let is = eqb-true v 1 e in ne-eqb v 0 (λ z. absurd (omega arith))
 
--- a permit before changes where there is a deny after; a deny, where there is a permit; a refusal does not change
+-- a permit before changes where there is a deny after; anything else, where it is a deny and there is a permit
 module _ (a b : Answer) where
   pub permit-changes : permits a ≡ true → isChange a b ≡ denies b
   unfolding isChange
@@ -101,26 +101,25 @@ module _ (m : Model) (d : Directive) (w : Requester) (few : length (m .register 
       found .low ∷ found .high ∷ count ∷ [] ≡ marked (decisionChanges m n w)
   shown-among last selected those counted = rw (counted, those, selected, last) marked-among
 
+-- a commit that is accepted
+module _ (m : Model) (s : List ℕ) (taken : accepted (committed m s .answer) ≡ true) where
+  passed : passes (bytesQuestions meant m s) ≡ true
+  unfolding committedBy
+  passed = sym (first-accepted (bytesQuestions meant m s)) ∙ taken
+
+  pub committed-last : committed m s .model ≡ afterCommit m s
+  unfolding committedBy
+  committed-last = rw passed
+
 -- the answer by the commit's
 module _ (m : Model) (s : List ℕ) (w : Requester) where
-  in-turn :
-      previewed m s w
-      ≡ firstNo (bytesQuestions meant m s) (firstNo (ask 17 (requesterPasses (m .register) w) ∷ []) (done (previewValues m s w)))
+  in-turn : previewed m s w ≡ firstNo (bytesQuestions meant m s) (comparedFor m (committed m s .model) w)
   unfolding previewed previewQuestions
   in-turn = first-append (bytesQuestions meant m s) _ _
 
-  passed : accepted (committed m s .answer) ≡ true → passes (bytesQuestions meant m s) ≡ true
-  unfolding committedBy
-  passed e = sym (first-accepted (bytesQuestions meant m s)) ∙ e
-
   pub preview-accepted :
-      accepted (committed m s .answer) ≡ true →
-      previewed m s w ≡ firstNo (ask 17 (requesterPasses (m .register) w) ∷ []) (done (previewValues m s w))
-  preview-accepted e = in-turn ∙ first-passed (bytesQuestions meant m s) _ (passed e)
-
-  pub committed-last : accepted (committed m s .answer) ≡ true → committed m s .model ≡ withLast m (drafted s)
-  unfolding committedBy
-  committed-last e = rw (passed e)
+      accepted (committed m s .answer) ≡ true → previewed m s w ≡ comparedFor m (committed m s .model) w
+  preview-accepted e = in-turn ∙ first-passed (bytesQuestions meant m s) _ (passed m s e)
 
   -- a refusal by question 6 to 14 is the commit's
   pub preview-refused : {a : Answer} → a ≡ committed m s .answer → accepted a ≡ false → a ≡ previewed m s w

@@ -47,6 +47,11 @@ previewQuestions m s w = bytesQuestions meant m s ++ (ask 17 (requesterPasses (m
 abbrev pub previewValues : Model → List ℕ → Requester → List ℕ
 previewValues m s w = marked (decisionChanges m (committed m s .model) w)
 
+-- question 17 of the requester, then the records whose decision changes
+abbrev pub comparedFor : Model → Model → Requester → Answer
+comparedFor before after w =
+    firstNo (ask 17 (requesterPasses (before .register) w) ∷ []) (done (marked (decisionChanges before after w)))
+
 -- What preview answers: the first "no" of the draft and then of the requester, or the words and the count.
 unfoldable pub previewed : Model → List ℕ → Requester → Answer
 previewed m s w = firstNo (previewQuestions m s w) (done (previewValues m s w))

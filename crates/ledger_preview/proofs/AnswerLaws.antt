@@ -2,16 +2,14 @@
 use Prim.Native.Nat.{ℕ}
 use mathlib.Core.Path.{_≡_, refl, sym, ap, _∙_}
 use mathlib.Core.Bool.{Bool, true, false, Bool·beq}
-use mathlib.Core.List.{List, [], _∷_}
+use mathlib.Core.List.{List}
 use lib.Dec.{eqb}
 use Rattle.sets.specs.Quantifiers.{oneIf}
-use Rattle.sets.specs.RecordSets.{marked}
 use Rattle.directive.specs.declared.Requester.{Requester}
-use Rattle.ledger_model.specs.Answer.{done, accepted}
+use Rattle.ledger_model.specs.Answer.{accepted}
 use Rattle.ledger_model.specs.Model.{Model}
-use Rattle.ledger_model.specs.Questions.{ask, firstNo}
 use Rattle.ledger_model.specs.Calls.{drafted, committed}
-use Rattle.ledger_model.specs.Preview.{decisionChanges, requesterPasses, previewed}
+use Rattle.ledger_model.specs.Preview.{comparedFor, previewed}
 use Rattle.ledger_model.proofs.PreviewLaws.{preview-accepted, committed-last, preview-refused}
 use Rattle.ledger.specs.declared.Ledger.{Ledger}
 use Rattle.ledger.specs.declared.answer.CommitAnswer.{CommitAnswer}
@@ -49,8 +47,6 @@ module _ {l : Ledger} (s : List ℕ) {r : CommitResult} (commits : Commits l s r
   compares a is compared =
       let given = commits invariant in
       let passed : accepted (committed (view l) s .answer) ≡ true = ap accepted (sym (given .answer) ∙ ap commitAnswer is) in
-      compared invariant (given .invariant) (drafted s) (given .ledger ∙ committed-last (view l) s w passed)
-      ∙ ap
-      (λ (m : Model). firstNo (ask 17 (requesterPasses (view l .register) w) ∷ []) (done (marked (decisionChanges (view l) m w))))
-      (given .ledger)
+      compared invariant (given .invariant) (drafted s) (given .ledger ∙ committed-last (view l) s passed)
+      ∙ ap (λ (m : Model). comparedFor (view l) m w) (given .ledger)
       ∙ sym (preview-accepted (view l) s w passed)

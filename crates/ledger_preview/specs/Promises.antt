@@ -1,15 +1,12 @@
 -- Document 02, #101: what preview promises. On a ledger that does not keep the invariant it ends, its answer is free, and the ledger
 -- still comes back.
 use mathlib.Core.Path.{_≡_}
-use mathlib.Core.List.{List, [], _∷_}
+use mathlib.Core.List.{List}
 use Prim.Native.Nat.{ℕ}
-use Rattle.sets.specs.RecordSets.{marked}
 use Rattle.directive.specs.declared.Directive.{Directive}
 use Rattle.directive.specs.declared.Requester.{Requester}
-use Rattle.ledger_model.specs.Answer.{done}
-use Rattle.ledger_model.specs.Questions.{ask, firstNo}
 use Rattle.ledger_model.specs.Calls.{withLast}
-use Rattle.ledger_model.specs.Preview.{decisionChanges, requesterPasses, previewed}
+use Rattle.ledger_model.specs.Preview.{comparedFor, previewed}
 use Rattle.ledger.specs.declared.Ledger.{Ledger}
 use Rattle.ledger.specs.State.{view}
 use Rattle.ledger.specs.Invariant.{Invariant}
@@ -28,5 +25,4 @@ pub record Previews (l : Ledger) (s : List ℕ) (w : Requester) (r : PreviewResu
 abbrev pub Compares : Ledger → Ledger → Requester → PreviewAnswer → Type 0
 Compares before after w a =
     Invariant before → Invariant after → (d : Directive) → view after ≡ withLast (view before) d →
-    previewAnswer a
-    ≡ firstNo (ask 17 (requesterPasses (view before .register) w) ∷ []) (done (marked (decisionChanges (view before) (view after) w)))
+    previewAnswer a ≡ comparedFor (view before) (view after) w

@@ -1,18 +1,17 @@
 -- What the parts of `access` promise. What stands in the buffer after the text is free.
-use Prim.Native.Nat.{ℕ, _<_}
+use Prim.Native.Nat.{ℕ}
 use mathlib.Core.Path.{_≡_}
 use mathlib.Core.Bool.{Bool}
 use mathlib.Core.List.{List}
-use lib.ListN.{length}
 use Rattle.sets.specs.declared.record_set.RecordSet.{RecordSet}
-use Rattle.sets.specs.RecordSets.{contains}
+use Rattle.sets.specs.RecordSets.{recordSetOf}
 use Rattle.directive.specs.declared.Requester.{Requester}
 use Rattle.ledger_model.specs.Preview.{decisionChanges}
 use Rattle.ledger.specs.declared.Ledger.{Ledger}
 use Rattle.ledger.specs.State.{view}
 use Rattle.text.specs.Puts.{StartsWith}
 use Rattle.program_access.specs.declared.Shown.{Shown}
-use Rattle.program_access.specs.Table.{Drafted, accessText, isTable}
+use Rattle.program_access.specs.Table.{OptionalDraft, accessText, isTable}
 
 -- the text at the start of the buffer, and whether it is a table
 pub record Prints (t : List ℕ) (b : Bool) (shown : Shown) (out : List ℕ) : Type 0 where
@@ -20,10 +19,9 @@ pub record Prints (t : List ℕ) (b : Bool) (shown : Shown) (out : List ℕ) : T
   pub table : shown .«is_table» ≡ b
 
 -- what `access` shows for a card, a draft and a requester
-abbrev pub Shows : List ℕ → Drafted → Requester → Shown → List ℕ → Type 0
+abbrev pub Shows : List ℕ → OptionalDraft → Requester → Shown → List ℕ → Type 0
 Shows card d w shown out = Prints (accessText card d w) (isTable card d w) shown out
 
--- the set has the records whose decision changes from l to `after`
+-- the set of the records whose decision changes from l to `after`
 abbrev pub HasChanges : Ledger → Ledger → Requester → RecordSet → Type 0
-HasChanges l after w records =
-    (i : ℕ) → i < length (view l .register .records) → contains records i ≡ decisionChanges (view l) (view after) w i
+HasChanges l after w records = records ≡ recordSetOf (decisionChanges (view l) (view after) w)

@@ -11,14 +11,15 @@ ghost use mathlib.Core.Bool.{_&&_};
 ghost use mathlib.Core.List.{_∷_, []};
 ghost use Prim.Native.Nat.{ℕ, _+_, _≤_};
 ghost use lib.ListN.{length};
-ghost use Rattle.ledger_model.specs.Answer.{done, refusal};
+ghost use Rattle.ledger_model.specs.Answer.{done, accepted, refusal};
+ghost use Rattle.ledger_model.specs.Calls.{committed};
 ghost use Rattle.ledger_model.specs.Preview.{requesterPasses};
 ghost use Rattle.ledger.specs.State.{view};
 ghost use Rattle.ledger.specs.Invariant.{Invariant};
 ghost use Rattle.ledger.specs.Answer.{directiveAnswer, commitAnswer};
 ghost use Rattle.ledger_preview.specs.Answer.{previewAnswer};
 ghost use Rattle.text.specs.Puts.{Puts, StartsWith};
-ghost use Rattle.program_access.specs.Table.{added, addedText, draftRefusalText, isTaken, draftText};
+ghost use Rattle.program_access.specs.Table.{added, addedText, draftRefusalText, draftText};
 ghost use Rattle.program_access.specs.Promises.{Prints};
 
 // The number of the question that a draft misses, 0 for none.
@@ -69,7 +70,7 @@ fn put_draft_refusal(out: &mut [u8], a: CommitAnswer) -> usize
     text::copy::put_bytes(out, end, b"\n")
 }
 
-// The records that a preview shows; none where it is refused.
+// The records that a preview shows; free where it is refused.
 fn records_of(a: PreviewAnswer) -> RecordSet
     ensures { λ r. ⌜ ((low high count : ℕ) → previewAnswer a ≡ done (low ∷ high ∷ count ∷ []) → r ≡ record { low = low; high = high }) ⌝ }
 {
@@ -79,13 +80,13 @@ fn records_of(a: PreviewAnswer) -> RecordSet
     records
 }
 
-// The table with what the draft would change, where a commit would take it.
+// The table with what the draft would change, where a commit would accept it.
 pub fn put_draft(l: Ledger, draft: &[u8], w: Requester, out: &mut [u8]) -> Shown
-    requires { ⌜ Invariant l × (18432 ≤ length (now out)) ⌝ }
-    ensures { λ r. ⌜ Prints (draftText (view l) (now (draft .entry)) w) (isTaken (view l) (now (draft .entry)) && requesterPasses (view l .register) w) r (now (out .exit)) ⌝ }
+    requires { ⌜ Invariant l × (18480 ≤ length (now out)) ⌝ }
+    ensures { λ r. ⌜ Prints (draftText (view l) (now (draft .entry)) w) (accepted (committed (view l) (now (draft .entry)) .answer) && requesterPasses (view l .register) w) r (now (out .exit)) ⌝ }
 {
-    let committed = ledger::commit::commit(l, draft);
-    let answer = committed.answer;
+    let tried = ledger::commit::commit(l, draft);
+    let answer = tried.answer;
     if question_of(answer) != 0 {
         return Shown {
             size: put_draft_refusal(out, answer),
@@ -94,6 +95,6 @@ pub fn put_draft(l: Ledger, draft: &[u8], w: Requester, out: &mut [u8]) -> Shown
     }
     let previewed = ledger_preview::preview(l, draft, w);
     let shown = previewed.answer;
-    let after = committed.ledger;
-    crate::table::put_requester(l, after, records_of(shown), w, out)
+    let after = tried.ledger;
+    crate::table::put_requester(l, after, records_of(shown), true, w, out)
 }

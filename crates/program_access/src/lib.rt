@@ -1,5 +1,5 @@
 // The program `access`: a card and a requester give a line for each record, permit or deny and why, at the card's clock. With a draft the
-// line also says what its commit would change.
+// line also says what its commit would change, and a last line how many records change.
 use arguments::Parsed;
 use arguments::hexadecimal::Decoded;
 use directive::Requester;
@@ -10,14 +10,14 @@ ghost use Prim.Native.Nat.{_≤_};
 ghost use lib.ListN.{length};
 ghost use Rattle.arguments.specs.Decimal.{Bounded};
 ghost use Rattle.program_access.specs.Arguments.{askedBy, withDraft, DraftAtMost, statusFor};
-ghost use Rattle.program_access.specs.Table.{draftedBy};
+ghost use Rattle.program_access.specs.Table.{draftWhere};
 ghost use Rattle.program_access.specs.Promises.{Shows};
 
 mod draft;
 mod table;
 mod words;
 
-// Who asks, whether with a draft, and how many bytes that has in the buffer for it.
+// Who asks, whether there is a draft, and how many bytes it has in its buffer.
 pub struct Inquiry {
     pub requester: Requester,
     pub has_draft: bool,
@@ -38,14 +38,14 @@ pub struct Shown {
 
 // Who may read which record of the card, and what the draft would change, if there is one; at the start of the buffer.
 fn access(card: &[u8], has_draft: bool, draft: &[u8], w: Requester, out: &mut [u8]) -> Shown
-    requires { ⌜ 18432 ≤ length (now out) ⌝ }
-    ensures { λ r. ⌜ Shows (now (card .entry)) (draftedBy «has_draft» (now (draft .entry))) w r (now (out .exit)) ⌝ }
+    requires { ⌜ 18480 ≤ length (now out) ⌝ }
+    ensures { λ r. ⌜ Shows (now (card .entry)) (draftWhere «has_draft» (now (draft .entry))) w r (now (out .exit)) ⌝ }
 {
     let read = card_reading::read::read(card);
     let line = card_reading::check::line_of(read);
     if line.refusal != 0 {
         return Shown {
-            size: words::put_refusal(out, b"card refused: question ", line.refusal),
+            size: words::put_numbered(out, 0, b"card refused: question ", line.refusal),
             is_table: false,
         };
     }
@@ -53,7 +53,7 @@ fn access(card: &[u8], has_draft: bool, draft: &[u8], w: Requester, out: &mut [u
     if has_draft {
         return draft::put_draft(l, draft, w, out);
     }
-    table::put_requester(l, l, sets::record_set::empty(), w, out)
+    table::put_requester(l, l, sets::record_set::empty(), false, w, out)
 }
 
 // The requester that four numbers name.
@@ -86,7 +86,7 @@ fn requester_of(person: Parsed, role: Parsed, origin: Parsed, purpose: Parsed) -
     })
 }
 
-// The same with a draft of so many bytes, if it is one.
+// The same with a draft of so many bytes; unusable where either part is.
 fn with_draft(asked: Asked, draft: Decoded) -> Asked
     ensures { λ r. ⌜ r ≡ withDraft asked draft ⌝ }
 {
@@ -154,7 +154,7 @@ pub extern "C" fn access_main() -> i32 {
     };
     let w = a.requester;
     let size = a.size;
-    let mut out = [0u8; 18432];
+    let mut out = [0u8; 18480];
     let shown = access(&input[..n], a.has_draft, &draft[..size], w, &mut out);
     let end = shown.size;
     let written = streams::put(&out[..end]);

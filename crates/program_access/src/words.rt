@@ -1,4 +1,4 @@
-// A decision, and a refusal, in words.
+// A decision in words, and words with a number.
 use ledger::answer::DecideAnswer;
 ghost use mathlib.Core.List.{_∷_, _++_, []};
 ghost use Prim.Native.Nat.{_+_, _≤_};
@@ -6,9 +6,9 @@ ghost use lib.ListN.{length};
 ghost use Rattle.sets.specs.Quantifiers.{oneIf};
 ghost use Rattle.ledger.specs.Answer.{decideAnswer};
 ghost use Rattle.text.specs.Text.{decimal};
-ghost use Rattle.text.specs.Puts.{Puts, StartsWith};
+ghost use Rattle.text.specs.Puts.{Puts};
 ghost use Rattle.program_access.specs.Words.{recordWord, colonWord};
-ghost use Rattle.program_access.specs.Table.{effectText, decisionText, answerText, refusalText};
+ghost use Rattle.program_access.specs.Table.{effectText, decisionText, answerText, numberedText};
 
 fn put_effect(out: &mut [u8], at: usize, permit: bool) -> usize
     requires { ⌜ at + 6 ≤ length (now out) ⌝ }
@@ -67,12 +67,13 @@ pub fn put_decision(out: &mut [u8], at: usize, i: usize, a: DecideAnswer) -> usi
     put_answer(out, answer, a)
 }
 
-// A refusal at the start of the buffer: its words and the number of the question; its length.
-pub fn put_refusal(out: &mut [u8], words: &[u8], n: u64) -> usize
-    requires { ⌜ length (now words) + 21 ≤ length (now out) ⌝ }
-    ensures { λ r. ⌜ StartsWith (now (out .exit)) r (refusalText (now (words .entry)) n) ⌝ }
+// A line of words and a number, from place `at` on; the place after it.
+pub fn put_numbered(out: &mut [u8], at: usize, words: &[u8], n: u64) -> usize
+    requires { ⌜ at + (length (now words) + 21) ≤ length (now out) ⌝ }
+    ensures { λ r. ⌜ Puts (now (out .entry)) at (numberedText (now (words .entry)) n) (now (out .exit)) r ⌝ }
+    ensures { λ r. ⌜ r ≤ at + (length (now (words .entry)) + 21) ⌝ }
 {
-    let number = text::copy::put_bytes(out, 0, words);
+    let number = text::copy::put_bytes(out, at, words);
     let end = text::decimal::put_decimal(out, number, n);
     text::copy::put_bytes(out, end, b"\n")
 }

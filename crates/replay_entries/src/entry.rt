@@ -155,15 +155,15 @@ fn write_entry(l: Ledger, v: &[u8], buffer: &mut [u8]) -> EntryAnswer
 }
 
 // The requester at the start of a preview's value.
-fn requester_of(value: &[u8]) -> Requester
-    requires { ⌜ requesterSize ≤ length (now value) ⌝ }
-    ensures { λ w. ⌜ w ≡ requesterOf (now (value .entry)) ⌝ }
+fn requester_of(v: &[u8]) -> Requester
+    requires { ⌜ requesterSize ≤ length (now v) ⌝ }
+    ensures { λ w. ⌜ w ≡ requesterOf (now (v .entry)) ⌝ }
 {
     Requester {
-        person: sets::number::get2(value, 0),
-        role: sets::number::get2(value, 2),
-        origin: sets::number::get1(value, 4),
-        purpose: sets::number::get1(value, 5),
+        person: sets::number::get2(v, 0),
+        role: sets::number::get2(v, 2),
+        origin: sets::number::get1(v, 4),
+        purpose: sets::number::get1(v, 5),
     }
 }
 

@@ -1,6 +1,12 @@
 -- `table::put_record`: the decision, what it changes to, and the line end.
+use mathlib.Core.Path.{ap, _∙_}
 use native.Mathlib.Omega.{arith}
 use borrow.Author.Needs.{needs}
+use Rattle.sets.specs.declared.record_set.RecordSet.{RecordSet}
+use Rattle.sets.specs.RecordSets.{contains}
+use Rattle.sets.proofs.WordLaws.{contains-words}
+use Rattle.ledger_model.specs.Preview.{decisionChanges}
+use Rattle.ledger.specs.State.{view}
 use Rattle.text.proofs.PutLaws.{puts-more}
 use Rattle.program_access.specs.Table.{changeText, recordText}
 use Rattle.program_access.proofs.table.put_record.Statement.{statement}
@@ -43,7 +49,8 @@ returns c =
     let asked = decision .before .before .before .query-on .ensures in
     let answered = decision .before .decide .ensures (start .pre .0 .0) in
     let told = rw (answered, asked) at (decision .put-decision .ensures .0) in
-    let changes = rw (change .before .before .member .ensures, start .pre .0 .2, asked) at (change .put-change .ensures .0) in
+    let changed = change .before .before .member .ensures ∙ ap (λ (r : RecordSet). contains r (start .args .i)) (start .pre .0 .2) ∙ contains-words (decisionChanges (view (start .args .l)) (view (start .args .after)) (start .args .w)) (start .args .i) (start .pre .1 .0) in
+    let changes = rw (changed, asked) at (change .put-change .ensures .0) in
     (puts-more (puts-more told changes) (ended .put-bytes .ensures), omega (arith, decision .put-decision .ensures .1, change .put-change .ensures .1, ended .put-bytes .ensures .place))
 
 pub put-record-spec : {M : Type 1} → statement M

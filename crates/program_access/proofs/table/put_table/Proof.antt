@@ -7,7 +7,7 @@ use borrow.Author.Needs.{needs}
 use lib.ListN.{length}
 use Rattle.ledger.specs.State.{view}
 use Rattle.text.specs.Puts.{Puts}
-use Rattle.text.proofs.PutLaws.{puts-none, puts-more, begins}
+use Rattle.text.proofs.PutLaws.{puts-none, puts-more}
 use Rattle.program_access.specs.Table.{recordTexts}
 use Rattle.program_access.proofs.table.put_table.Statement.{statement}
 use Rattle.program_access.proofs.table.put_table.Tie as tie
@@ -32,8 +32,7 @@ loop-holds c = (search needs, search needs, refl, puts-none _ _)
 put-record-requires : tie.Need-put-record-requires Inv-loop μ-loop
 put-record-requires c κs =
     let start = c .before .before .before .before .before in
-    let counted = c .before .before .before .record-count .ensures in
-    ((start .pre .0, start .pre .1, start .pre .2 _ (omega (arith, counted))), (search needs, search needs))
+    ((start .pre .0, start .pre .1, start .pre .2), (search needs, search needs))
 
 add-i : tie.Need-add-i Inv-loop μ-loop
 add-i c = search needs
@@ -61,7 +60,7 @@ returns c =
     let counted = c .before .before in
     let all : c .before .loop .i ≡ length (view (counted .before .before .args .l) .register .records) =
     omega (arith, inv .0, counted .record-count .ensures) in
-    begins (rw all at (inv .3)) (search needs) .1
+    (rw all at (inv .3), search needs)
 
 pub put-table-spec : {M : Type 1} → statement M
 put-table-spec =

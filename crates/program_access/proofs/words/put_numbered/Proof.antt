@@ -1,9 +1,9 @@
--- `words::put_refusal`: the words, the number and the line end.
+-- `words::put_numbered`: the words, the number and the line end.
 use native.Mathlib.Omega.{arith}
 use borrow.Author.Needs.{needs}
-use Rattle.text.proofs.PutLaws.{puts-more, begins}
-use Rattle.program_access.proofs.words.put_refusal.Statement.{statement}
-use Rattle.program_access.proofs.words.put_refusal.Tie as tie
+use Rattle.text.proofs.PutLaws.{puts-more}
+use Rattle.program_access.proofs.words.put_numbered.Statement.{statement}
+use Rattle.program_access.proofs.words.put_numbered.Tie as tie
 
 put-bytes-requires : tie.Need-put-bytes-requires
 put-bytes-requires c κs = search needs
@@ -26,10 +26,10 @@ returns c =
     let numbered = ended .before .before .before .before .before in
     let worded = numbered .before .before .before .before in
     let all = puts-more (puts-more (worded .put-bytes .ensures) (numbered .put-decimal .ensures .0)) (ended .put-bytes2 .ensures) in
-    begins all (omega (arith, ended .put-bytes2 .ensures .place, numbered .put-decimal .ensures .1, worded .put-bytes .ensures .place)) .1
+    (all, omega (arith, ended .put-bytes2 .ensures .place, numbered .put-decimal .ensures .1, worded .put-bytes .ensures .place))
 
-pub put-refusal-spec : {M : Type 1} → statement M
-put-refusal-spec =
+pub put-numbered-spec : {M : Type 1} → statement M
+put-numbered-spec =
     tie.close
     (tie.spec
     put-bytes-requires

@@ -1,7 +1,7 @@
--- `hexadecimal::is_between`: both bounds are asked.
+-- `is_between`: both bounds are asked.
 use borrow.Author.Tests.{le-leb, lt-leb}
-use Rattle.arguments.proofs.hexadecimal.is_between.Statement.{statement}
-use Rattle.arguments.proofs.hexadecimal.is_between.Tie as tie
+use Rattle.arguments.proofs.is_between.Statement.{statement}
+use Rattle.arguments.proofs.is_between.Tie as tie
 
 returns : tie.Need-returns
 returns c = rw (le-leb (c .before .args .low) (c .before .args .b) (c .if1 .taken))
