@@ -63,14 +63,11 @@ fn is_change(before: DecideAnswer, after: DecideAnswer) -> bool
     false
 }
 
-// Whether record x is in the set and its decision changes. What is outside the set is not decided.
-fn changes_at(before: Ledger, after: Ledger, w: Requester, among: RecordSet, x: usize) -> bool
+// Whether the decision on record x changes.
+fn changes_at(before: Ledger, after: Ledger, w: Requester, x: usize) -> bool
     requires { ⌜ x < 128 ⌝ }
-    ensures { λ r. ⌜ (Invariant before → Invariant after → r ≡ contains among x && decisionChanges (view before) (view after) w x) ⌝ }
+    ensures { λ r. ⌜ (Invariant before → Invariant after → r ≡ decisionChanges (view before) (view after) w x) ⌝ }
 {
-    if !sets::record_set::member(among, x) {
-        return false;
-    }
     let q = directive::query_on(w, x as u8);
     is_change(
         ledger::decision::decide(before, q),
@@ -78,13 +75,16 @@ fn changes_at(before: Ledger, after: Ledger, w: Requester, among: RecordSet, x: 
     )
 }
 
-// The records of the set whose decision changes.
+// The records of the set whose decision changes. What is outside the set is not decided.
 fn changed_among(before: Ledger, after: Ledger, w: Requester, among: RecordSet) -> RecordSet
     ensures { λ r. ⌜ (Invariant before → Invariant after → r ≡ recordSetOf (λ x. contains among x && decisionChanges (view before) (view after) w x)) ⌝ }
 {
     let mut found = sets::record_set::empty();
     for x in 0..register::RECORDS {
-        let b = changes_at(before, after, w, among, x);
+        if !sets::record_set::member(among, x) {
+            continue;
+        }
+        let b = changes_at(before, after, w, x);
         found = sets::record_set::insert_where(found, x, b);
     }
     found

@@ -1,13 +1,14 @@
 -- `changed_among`: after x turns the set has those of the records below x that change.
 use Prim.Native.Nat.{ℕ, _-_, _^_, _<_, _≤_}
-use mathlib.Core.Path.{_∙_}
-use mathlib.Core.Bool.{Bool, _&&_}
+use mathlib.Core.Path.{refl, _∙_}
+use mathlib.Core.Bool.{Bool, false, _&&_}
 use native.Mathlib.Omega.{arith}
 use borrow.Author.Needs.{needs}
 use borrow.Author.Tests.{le-ltb}
 use Rattle.sets.specs.declared.record_set.RecordSet.{RecordSet}
 use Rattle.sets.specs.RecordSets.{contains}
 use Rattle.sets.proofs.FillLaws.{HasBelow, below-next, below-all}
+use Rattle.register.proofs.CallLaws.{failed, passed}
 use Rattle.directive.specs.declared.Requester.{Requester}
 use Rattle.ledger_model.specs.Preview.{decisionChanges}
 use Rattle.ledger.specs.declared.Ledger.{Ledger}
@@ -44,11 +45,8 @@ loop-holds c =
       so-far = λ before after k h. c .empty .ensures k ∙ rw (le-ltb k 0 (search needs));
     }
 
-changes-at-requires : tie.Need-changes-at-requires Inv-loop μ-loop
-changes-at-requires c κs = search needs
-
-insert-where-requires : tie.Need-insert-where-requires Inv-loop μ-loop
-insert-where-requires c κs = search needs
+member-requires : tie.Need-member-requires Inv-loop μ-loop
+member-requires c κs = search needs
 
 add-x : tie.Need-add-x Inv-loop μ-loop
 add-x c = search needs
@@ -59,11 +57,37 @@ loop-less c = search needs
 loop-again : tie.Need-loop-again Inv-loop μ-loop
 loop-again c =
     let now = c .before .before .before .loop in
+    let outside = failed (c .before .member .ensures) (c .if1 .taken) in
     record {
       in-words = search needs;
       low = search needs;
       high = search needs;
-      so-far = λ before after. below-next _ _ _ (now .x) _ (now .inv .so-far before after) (c .before .changes-at .ensures before after) (c .insert-where .ensures);
+      so-far = λ before after. below-next _ _ _ (now .x) false (now .inv .so-far before after) (rw outside) (λ k h. refl);
+    }
+
+changes-at-requires : tie.Need-changes-at-requires Inv-loop μ-loop
+changes-at-requires c κs = search needs
+
+insert-where-requires : tie.Need-insert-where-requires Inv-loop μ-loop
+insert-where-requires c κs = search needs
+
+add-x-2 : tie.Need-add-x-2 Inv-loop μ-loop
+add-x-2 c = search needs
+
+loop-less-2 : tie.Need-loop-less-2 Inv-loop μ-loop
+loop-less-2 c = search needs
+
+loop-again-2 : tie.Need-loop-again-2 Inv-loop μ-loop
+loop-again-2 c =
+    let tested = c .before .before in
+    let now = tested .before .before .before .loop in
+    let inside = passed (tested .before .member .ensures) (tested .if1 .left) in
+    record {
+      in-words = search needs;
+      low = search needs;
+      high = search needs;
+      so-far = λ before after.
+          below-next _ _ _ (now .x) (c .before .changes-at .result) (now .inv .so-far before after) (rw inside (c .before .changes-at .ensures before after)) (c .insert-where .ensures);
     }
 
 returns : tie.Need-returns Inv-loop μ-loop
@@ -79,9 +103,13 @@ changed-among-spec =
     μ-loop
     empty-requires
     loop-holds
-    changes-at-requires
-    insert-where-requires
+    member-requires
     add-x
     loop-less
     loop-again
+    changes-at-requires
+    insert-where-requires
+    add-x-2
+    loop-less-2
+    loop-again-2
     returns)

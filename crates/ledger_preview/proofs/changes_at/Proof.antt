@@ -1,17 +1,10 @@
--- `changes_at`: outside the set nothing is asked; in it, the two decisions on the requester's query for record x.
+-- `changes_at`: the two decisions on the requester's query for record x.
 use mathlib.Core.Path.{ap, ap₂, _∙_}
 use borrow.Author.Needs.{needs}
-use Rattle.register.proofs.CallLaws.{failed, passed}
 use Rattle.ledger_model.specs.Calls.{decided}
 use Rattle.ledger_model.specs.Preview.{isChange, decisionChanges}
 use Rattle.ledger_preview.proofs.changes_at.Statement.{statement}
 use Rattle.ledger_preview.proofs.changes_at.Tie as tie
-
-member-requires : tie.Need-member-requires
-member-requires c κs = search needs
-
-returns : tie.Need-returns
-returns c before after = rw (failed (c .before .member .ensures) (c .if1 .taken))
 
 cast-query-on : tie.Need-cast-query-on
 cast-query-on c = search needs
@@ -28,26 +21,22 @@ decide-requires-2 c κs = search needs
 is-change-requires : tie.Need-is-change-requires
 is-change-requires c κs = search needs
 
-returns-2 : tie.Need-returns-2
+returns : tie.Need-returns
 unfolding decisionChanges
-returns-2 c before after =
+returns c before after =
     let asked = c .before .before .before .query-on .ensures in
-    let inside = passed (c .before .before .before .before .before .member .ensures) (c .before .before .before .before .if1 .left) in
-    rw inside
-    (c .is-change .ensures
+    c .is-change .ensures
     ∙ ap₂ isChange
     (c .before .before .decide .ensures before ∙ ap (decided _) asked)
-    (c .before .decide2 .ensures after ∙ ap (decided _) asked))
+    (c .before .decide2 .ensures after ∙ ap (decided _) asked)
 
 pub changes-at-spec : {M : Type 1} → statement M
 changes-at-spec =
     tie.close
     (tie.spec
-    member-requires
-    returns
     cast-query-on
     query-on-requires
     decide-requires
     decide-requires-2
     is-change-requires
-    returns-2)
+    returns)
