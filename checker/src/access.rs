@@ -17,38 +17,47 @@ use crate::request::Requester;
 /// How many hexadecimal digits of a draft are taken.
 pub const MOST_DRAFT_DIGITS: usize = 1_024;
 
-/// What the program is asked, as its arguments have it: who asks, and the
-/// digits of a draft or what stands in their place.
+/// The arguments of the program: who asks, and the digits of a draft or what
+/// stands in their place.
 #[derive(Clone, Debug, PartialEq, Eq)]
-pub struct Asking {
+pub struct AccessArguments {
     pub requester: Requester,
     pub draft: Option<String>,
 }
 
-impl Asking {
-    pub fn arguments(&self) -> Vec<String> {
+/// A draft that is not an even number of hexadecimal digits, at most 1,024.
+#[derive(Clone, Copy, Debug, PartialEq, Eq)]
+pub struct UnusableDraft;
+
+impl AccessArguments {
+    /// As they stand in a command.
+    pub fn words(&self) -> Vec<String> {
         let Requester {
             person,
             role,
             origin,
             purpose,
         } = self.requester;
-        let mut arguments = vec![
+        let mut words = vec![
             person.to_string(),
             role.to_string(),
             origin.to_string(),
             purpose.to_string(),
         ];
-        arguments.extend(self.draft.clone());
-        arguments
+        words.extend(self.draft.clone());
+        words
     }
-}
 
-/// The draft of an argument: an even number of hexadecimal digits, at most
-/// 1,024, upper or lower case; nothing where it is anything else.
-pub fn draft_of(argument: &str) -> Option<Vec<u8>> {
-    let short = argument.len() <= MOST_DRAFT_DIGITS;
-    from_hex(argument).filter(|_| short)
+    /// The bytes of the draft, if there is one; its digits are in upper or lower
+    /// case.
+    pub fn draft_bytes(&self) -> Result<Option<Vec<u8>>, UnusableDraft> {
+        let Some(digits) = &self.draft else {
+            return Ok(None);
+        };
+        let short = digits.len() <= MOST_DRAFT_DIGITS;
+        let bytes = from_hex(digits).filter(|_| short);
+        bytes.map(Some).ok_or(UnusableDraft)
+    }
 }
 
 /// What `access` answers.
@@ -63,22 +72,19 @@ pub enum Access {
     RequesterRefused(Refusal),
     /// A decision for each record, in order.
     Table(Vec<Decision>),
-    /// The same, and with the draft.
+    /// The same, and with the draft; the last line counts the records that
+    /// change.
     Preview(Preview),
 }
 
 /// The answer to these arguments and the card at the start of the input.
-pub fn access(input: impl Read, asking: &Asking) -> io::Result<Access> {
-    let draft = match &asking.draft {
-        None => None,
-        Some(argument) => match draft_of(argument) {
-            Some(draft) => Some(draft),
-            None => return Ok(Access::Unusable),
-        },
+pub fn access(input: impl Read, arguments: &AccessArguments) -> io::Result<Access> {
+    let Ok(draft) = arguments.draft_bytes() else {
+        return Ok(Access::Unusable);
     };
     let card = take_card(input)?;
     Ok(match card::read(&card) {
-        Ok(ledger) => Access::of(&ledger, asking.requester, draft.as_deref()),
+        Ok(ledger) => Access::of(&ledger, arguments.requester, draft.as_deref()),
         Err(refusal) => Access::CardRefused(refusal),
     })
 }
@@ -125,7 +131,8 @@ impl Access {
                     before: vec![before],
                     after: vec![after],
                 };
-                let lines = preview.decisions().map(one);
+                let records = preview.decisions().map(one);
+                let lines = records.chain([preview.clone()]);
                 lines.map(|line| Answer::Preview(Ok(line))).collect()
             }
         }
@@ -163,7 +170,7 @@ impl fmt::Display for Access {
                     }
                     writeln!(f)?;
                 }
-                Ok(())
+                writeln!(f, "records that change: {}", preview.words().count)
             }
         }
     }

@@ -156,6 +156,7 @@ pub fn measures() -> Vec<Measure> {
         write(),
         preview(),
         preview_none(),
+        preview_one(),
         read(),
     ]
 }
@@ -694,6 +695,18 @@ fn preview_none() -> Measure {
     });
     preview_scene().measure("preview-none", (20, 0), &operation, |answers| {
         all_change(answers, 0)
+    })
+}
+
+/// A preview of a draft that selects one record, the last one, which changes.
+fn preview_one() -> Measure {
+    let operation = preview_of(Fields {
+        record: 127,
+        reach: 0,
+        ..ALL
+    });
+    preview_scene().measure("preview-one", (20, 0), &operation, |answers| {
+        all_change(answers, 1)
     })
 }
 

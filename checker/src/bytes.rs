@@ -1,5 +1,8 @@
 //! Numbers and fields in a byte string, "high byte first throughout".
 
+/// Where the value of a field starts: after its tag and its length.
+pub const VALUE: usize = 3;
+
 /// The bytes that are still to be read.
 #[derive(Clone, Copy, Debug)]
 pub struct Bytes<'a> {

@@ -7,7 +7,7 @@ use std::path::Path;
 use std::process::ExitCode;
 use std::time::Duration;
 
-use checker::access::{access, draft_of, Asking, MOST_DRAFT_DIGITS};
+use checker::access::{access, AccessArguments, UnusableDraft, MOST_DRAFT_DIGITS};
 use checker::answer::Answer;
 use checker::bench::measures;
 use checker::bytes::hex;
@@ -99,11 +99,12 @@ call, or 'malformed' where it breaks its format.",
         help: "Takes the first 65,535 bytes of standard input as a card and prints a line for each
 of its records: what is decided there for this requester at the card's clock, and on
 which basis. With DRAFT, the line of a record whose decision the draft would change
-says to what. The status is 1, with the question that refuses in one line, if the card
-is refused, if a commit of the draft would be, or if the register does not have the
-role, the origin is above 15 or the purpose above 10. PERSON and ROLE are at most 65535,
-ORIGIN and PURPOSE at most 255; each has at most five digits. DRAFT is the bytes of the
-draft in hexadecimal, at most 1024 digits; 'checker draft' makes them.",
+says to what, and a last line how many change. The status is 1, with the question that
+refuses in one line, if the card is refused, if a commit of the draft would be, or if
+the register does not have the role, the origin is above 15 or the purpose above 10.
+PERSON and ROLE are at most 65535, ORIGIN and PURPOSE at most 255; each has at most five
+digits. DRAFT is the bytes of the draft in hexadecimal, at most 1024 digits;
+'checker draft' makes them.",
         operands: &["PERSON", "ROLE", "ORIGIN", "PURPOSE", "[DRAFT]"],
         choices: &[],
         run: run_access,
@@ -276,25 +277,20 @@ fn run_access(arguments: &Arguments, output: &mut Output) -> Result<ExitCode, Fa
         origin: arguments.operand_number(2, "ORIGIN", u8::MAX)?,
         purpose: arguments.operand_number(3, "PURPOSE", u8::MAX)?,
     };
-    let draft = arguments.optional_operand(4).map(draft_argument);
-    let asking = Asking {
+    let draft = arguments.optional_operand(4);
+    let taken = AccessArguments {
         requester,
-        draft: draft.transpose()?,
+        draft: draft.map(|draft| draft.to_string_lossy().into_owned()),
     };
-    let access = access(files::standard_input()?, &asking)?;
+    if let (Some(draft), Err(UnusableDraft)) = (draft, taken.draft_bytes()) {
+        return Err(wrong(format!(
+            "DRAFT: '{}' is not an even number of hexadecimal digits, at most {MOST_DRAFT_DIGITS}",
+            draft.display()
+        )));
+    }
+    let access = access(files::standard_input()?, &taken)?;
     write!(output, "{access}")?;
     Ok(ExitCode::from(access.status()))
-}
-
-/// The digits of a draft.
-fn draft_argument(argument: &OsStr) -> Result<String, Failure> {
-    let text = argument.to_str().filter(|text| draft_of(text).is_some());
-    text.map(str::to_string).ok_or_else(|| {
-        wrong(format!(
-            "DRAFT: '{}' is not an even number of hexadecimal digits, at most {MOST_DRAFT_DIGITS}",
-            argument.display()
-        ))
-    })
 }
 
 fn run_show(arguments: &Arguments, output: &mut Output) -> Result<ExitCode, Failure> {

@@ -1,10 +1,11 @@
 //! How often each answer occurred.
 
-use std::collections::BTreeMap;
 use std::fmt;
+use std::ops::RangeInclusive;
 
 use crate::answer::Answer;
 use crate::directive::Effect;
+use crate::frequencies::Frequencies;
 use crate::ledger::Decision;
 use crate::preview::{Outcome, Preview};
 use crate::refusal::{Refusal, LAST_QUESTION};
@@ -23,14 +24,9 @@ const CALLS: [&str; 9] = [
     CARD, "commit", "revoke", "advance", "issue", "decide", "brief", "write", PREVIEW,
 ];
 
-/// The questions that a preview can miss.
-const PREVIEW_QUESTIONS: [u8; 10] = [6, 7, 8, 9, 10, 11, 12, 13, 14, 17];
-const OUTCOMES: [Outcome; 4] = [
-    Outcome::Same,
-    Outcome::BasisAlone,
-    Outcome::ToDeny,
-    Outcome::ToPermit,
-];
+/// The questions that a draft can miss, and the one that a requester can.
+pub(crate) const DRAFT_QUESTIONS: RangeInclusive<u8> = 6..=14;
+const REQUESTER_QUESTION: u8 = 17;
 
 /// Which inputs are asked for.
 #[derive(Clone, Copy, Debug, PartialEq, Eq)]
@@ -124,19 +120,26 @@ impl fmt::Display for Kind {
     }
 }
 
-#[derive(Clone, Debug, Default, PartialEq, Eq)]
+#[derive(Clone, Debug, PartialEq, Eq)]
 pub struct Counts {
-    by_kind: BTreeMap<Kind, u64>,
+    by_kind: Frequencies<Kind>,
+}
+
+impl Default for Counts {
+    fn default() -> Counts {
+        Counts {
+            by_kind: Frequencies::zeros([]),
+        }
+    }
 }
 
 impl Counts {
     pub fn of(&self, kind: Kind) -> u64 {
-        self.by_kind.get(&kind).copied().unwrap_or(0)
+        self.by_kind.of(kind)
     }
 
     fn count(&mut self, kind: Kind) {
-        let count = self.by_kind.entry(kind).or_insert(0);
-        *count = count.saturating_add(1);
+        self.by_kind.count(kind);
     }
 
     fn count_call<T>(&mut self, call: &'static str, answer: &Result<T, Refusal>) {
@@ -187,8 +190,9 @@ impl Counts {
         let calls = (FIRST_CALL_QUESTION..=LAST_QUESTION).map(Kind::CallRefusal);
         let permits = BASES.into_iter().map(Kind::Permit);
         let denies = DENYING_BASES.into_iter().map(Kind::Deny);
-        let refused = PREVIEW_QUESTIONS.into_iter().map(Kind::PreviewRefusal);
-        let previews = refused.chain(OUTCOMES.into_iter().map(Kind::Preview));
+        let refused = DRAFT_QUESTIONS.chain([REQUESTER_QUESTION]);
+        let outcomes = Outcome::ALL.into_iter().map(Kind::Preview);
+        let previews = refused.map(Kind::PreviewRefusal).chain(outcomes);
         let replays = calls.chain(permits).chain(denies).chain(previews);
         let cards = cards.filter(move |_| asked.cards);
         cards.chain(replays.filter(move |_| asked.replays))
@@ -203,8 +207,8 @@ impl Counts {
 
     /// Whether a call was made, or a replay is malformed.
     fn has_calls(&self) -> bool {
-        self.by_kind.keys().any(|kind| match kind {
-            Kind::Accepted(call) | Kind::Refused(call) => *call != CARD,
+        self.by_kind.iter().any(|(kind, _)| match kind {
+            Kind::Accepted(call) | Kind::Refused(call) => call != CARD,
             Kind::CardRefusal(_) => false,
             _ => true,
         })
@@ -251,7 +255,7 @@ impl fmt::Display for Counts {
             row(f, [call, &accepted, &refused])?;
         }
         if calls {
-            for outcome in OUTCOMES {
+            for outcome in Outcome::ALL {
                 let kind = Kind::Preview(outcome);
                 writeln!(f, "previews {outcome} {}", self.of(kind))?;
             }

@@ -1,12 +1,12 @@
 //! How many inputs go in parts, how many cards the cut of `cardcheck` decides,
 //! and how long the replays are.
 
-use crate::bytes::Bytes;
+use crate::bytes::VALUE;
 use crate::card;
 use crate::cardcheck::CARD_LIMIT;
 use crate::counts::Asked;
 use crate::generate::{Input, InputKind, LONGEST, MANY_CALLS};
-use crate::replay::Call;
+use crate::replay::{decode, Decoded};
 
 #[derive(Clone, Debug, Default, PartialEq, Eq)]
 pub struct Extent {
@@ -52,23 +52,16 @@ impl Extent {
     }
 
     fn add_replay(&mut self, bytes: &[u8]) {
-        let mut bytes = Bytes::new(bytes);
-        let length = bytes.u16().map(usize::from);
-        let Some(card) = length.and_then(|length| bytes.take(length)) else {
+        let Some(Decoded { card, calls, .. }) = decode(bytes) else {
             return;
         };
-        let mut calls = 0;
-        let mut before = 0;
-        while let Some((tag, value)) = bytes.field() {
-            if Call::decode(tag, value).is_none() {
-                break;
-            }
-            count(&mut calls, true);
+        self.calls = self.calls.max(calls.len());
+        if let Some((_, before)) = calls.split_last() {
             self.card = self.card.max(card.len());
-            self.value = self.value.max(before);
-            before = value.len();
+            let values = before.iter().map(|call| call.encode().len());
+            let longest = values.max().unwrap_or(0).saturating_sub(VALUE);
+            self.value = self.value.max(longest);
         }
-        self.calls = self.calls.max(calls);
     }
 
     /// Of which inputs, what is measured, how much it is, and the least that

@@ -2,7 +2,9 @@
 
 use std::fmt;
 
-use crate::replay::{Call, ADVANCE, BRIEF, COMMIT, DECIDE, ISSUE, PREVIEW, REVOKE, WRITE};
+use crate::replay::{
+    Call, ADVANCE, BRIEF, COMMIT, DECIDE, ISSUE, PREVIEW, REQUESTER_LENGTH, REVOKE, WRITE,
+};
 
 #[derive(Clone, Copy, Debug, PartialEq, Eq)]
 pub enum Kind {
@@ -70,7 +72,7 @@ impl Kind {
             Kind::Advance | Kind::Brief => ValueLength::Just(4),
             Kind::Issue => ValueLength::Just(9),
             Kind::Decide => ValueLength::Just(7),
-            Kind::Preview => ValueLength::AtLeast(6),
+            Kind::Preview => ValueLength::AtLeast(REQUESTER_LENGTH),
         }
     }
 
@@ -93,12 +95,12 @@ impl Kind {
 /// The length of the value of a call.
 #[derive(Clone, Copy, Debug, PartialEq, Eq)]
 pub enum ValueLength {
-    Just(u16),
-    AtLeast(u16),
+    Just(usize),
+    AtLeast(usize),
 }
 
 impl ValueLength {
-    pub fn allows(self, length: u16) -> bool {
+    pub fn allows(self, length: usize) -> bool {
         match self {
             ValueLength::Just(just) => length == just,
             ValueLength::AtLeast(least) => length >= least,

@@ -1,6 +1,7 @@
-//! An implementation of document 01 and of what document 02 adds, written from the documents alone: card,
-//! ledger, decisions and emergency briefs, with a seeded generator of inputs
-//! and a comparison with other implementations.
+//! An implementation of document 01 and of what document 02 adds, written from
+//! the documents alone: card, ledger, decisions, emergency briefs and previews,
+//! with a seeded generator of inputs and a comparison with other
+//! implementations.
 
 #![forbid(unsafe_code)]
 #![deny(
@@ -48,6 +49,8 @@ pub mod parts;
 
 pub mod counts;
 
+pub mod preview_counts;
+
 pub mod access_counts;
 
 pub mod extent;
@@ -80,6 +83,8 @@ pub mod text_form;
 pub mod files;
 
 pub mod bytes;
+
+pub mod frequencies;
 
 pub mod layout;
 

@@ -18,19 +18,29 @@ pub struct Preview {
 /// way.
 #[derive(Clone, Copy, Debug, PartialEq, Eq, PartialOrd, Ord)]
 pub enum Outcome {
-    /// Every decision stays, its basis included.
+    /// Every decision stays, with its basis and number.
     Same,
-    /// "A new basis alone is none."
-    BasisAlone,
+    /// Effects stay, and a basis or the number of a directive does not: "a new
+    /// basis alone is none".
+    BasisOrNumber,
     ToDeny,
     ToPermit,
+}
+
+impl Outcome {
+    pub const ALL: [Outcome; 4] = [
+        Outcome::Same,
+        Outcome::BasisOrNumber,
+        Outcome::ToDeny,
+        Outcome::ToPermit,
+    ];
 }
 
 impl fmt::Display for Outcome {
     fn fmt(&self, f: &mut fmt::Formatter<'_>) -> fmt::Result {
         f.write_str(match self {
             Outcome::Same => "without a change",
-            Outcome::BasisAlone => "with a new basis alone",
+            Outcome::BasisOrNumber => "with a new basis or number alone",
             Outcome::ToDeny => "from permit to deny",
             Outcome::ToPermit => "from deny to permit",
         })
@@ -52,8 +62,9 @@ impl Preview {
         self.records_where(|before, after| before.effect != after.effect)
     }
 
-    /// The records whose basis alone would change.
-    pub fn with_a_new_basis(&self) -> RecordSet {
+    /// The records whose decision keeps its effect and would have another basis
+    /// or number.
+    pub fn with_a_new_basis_or_number(&self) -> RecordSet {
         self.records_where(|before, after| before != after) & !self.changed()
     }
 
@@ -75,7 +86,7 @@ impl Preview {
         match changes.next() {
             Some((_, _, after)) if after.effect == Effect::Deny => Outcome::ToDeny,
             Some(_) => Outcome::ToPermit,
-            None if self.with_a_new_basis() != 0 => Outcome::BasisAlone,
+            None if self.with_a_new_basis_or_number() != 0 => Outcome::BasisOrNumber,
             None => Outcome::Same,
         }
     }

@@ -178,6 +178,42 @@ pub fn encode(card: &[u8], calls: &[Call]) -> Vec<u8> {
     bytes
 }
 
+/// The card at the start of a replay; nothing where it does not stand whole.
+pub fn framed_card<'a>(replay: &mut Bytes<'a>) -> Option<&'a [u8]> {
+    let length = replay.u16()?;
+    replay.take(usize::from(length))
+}
+
+/// A replay whose card stands whole.
+#[derive(Clone, Debug, PartialEq, Eq)]
+pub struct Decoded<'a> {
+    pub card: &'a [u8],
+    /// The calls up to the end, or to the first that is malformed.
+    pub calls: Vec<Call>,
+    /// The bytes from the first malformed call on.
+    pub rest: &'a [u8],
+}
+
+/// Nothing where the card does not stand whole.
+pub fn decode(replay: &[u8]) -> Option<Decoded<'_>> {
+    let mut bytes = Bytes::new(replay);
+    let card = framed_card(&mut bytes)?;
+    let mut calls = Vec::new();
+    let mut rest = bytes.rest();
+    while let Some(call) = take_call(&mut bytes) {
+        calls.push(call);
+        rest = bytes.rest();
+    }
+    Some(Decoded { card, calls, rest })
+}
+
+/// The next call; nothing where it does not stand whole, its tag is unknown or
+/// its length is another one.
+pub fn take_call(replay: &mut Bytes) -> Option<Call> {
+    let (tag, value) = replay.field()?;
+    Call::decode(tag, value)
+}
+
 /// The answers of a replay, one after another.
 pub struct Replay<'a> {
     bytes: Bytes<'a>,
@@ -214,8 +250,7 @@ impl<'a> Replay<'a> {
     /// The card's answer; nothing where it does not stand whole. After a
     /// refused card "the replay goes on with the empty ledger".
     fn card(&mut self) -> Option<(Ledger, Answer)> {
-        let length = self.bytes.u16()?;
-        let card = self.bytes.take(usize::from(length))?;
+        let card = framed_card(&mut self.bytes)?;
         Some(match card::read(card) {
             Ok(ledger) => {
                 let size = CardSize::of(&ledger);
@@ -223,13 +258,6 @@ impl<'a> Replay<'a> {
             }
             Err(refusal) => (Ledger::default(), Answer::Card(Err(refusal))),
         })
-    }
-
-    /// The next call; nothing where it does not stand whole, its tag is
-    /// unknown or its length is another one.
-    fn call(&mut self) -> Option<Call> {
-        let (tag, value) = self.bytes.field()?;
-        Call::decode(tag, value)
     }
 }
 
@@ -249,7 +277,7 @@ impl Iterator for Replay<'_> {
                 if self.bytes.is_empty() {
                     return None;
                 }
-                let Some(call) = self.call() else {
+                let Some(call) = take_call(&mut self.bytes) else {
                     return Some(Answer::Malformed);
                 };
                 let answer = call.run(&mut ledger);

@@ -5,13 +5,13 @@ use std::fs;
 use std::path::Path;
 use std::process::Output;
 
-use checker::access::{access, Access, Asking};
+use checker::access::{access, Access, AccessArguments};
 use checker::access_counts::AccessCounts;
 use checker::card;
 use checker::cardcheck::take_card;
 use checker::directive::Subject;
 use checker::explain::{access_in_words, access_line};
-use checker::generate::{asking, inputs, Input};
+use checker::generate::{access_arguments, inputs, Input};
 use checker::ledger::Ledger;
 use checker::refusal::Refusal;
 use checker::request::Requester;
@@ -34,15 +34,15 @@ fn by(person: u16, role: u16, origin: u8, purpose: u8) -> Requester {
     }
 }
 
-fn alone(requester: Requester) -> Asking {
-    Asking {
+fn alone(requester: Requester) -> AccessArguments {
+    AccessArguments {
         requester,
         draft: None,
     }
 }
 
-fn answer(card: &[u8], asking: &Asking) -> Access {
-    access(card, asking).expect("a slice can be read")
+fn answer(card: &[u8], arguments: &AccessArguments) -> Access {
+    access(card, arguments).expect("a slice can be read")
 }
 
 fn lines(card: &[u8], requester: Requester) -> String {
@@ -56,7 +56,7 @@ fn assert_demo(requester: Requester, expected: [&str; 12]) {
         .map(|(record, decision)| format!("record {record}: {decision}\n"))
         .collect();
     assert_eq!(lines(&stored("demo.card"), requester), expected);
-    let arguments = [&["access".to_string()], &alone(requester).arguments()[..]].concat();
+    let arguments = [&["access".to_string()], &alone(requester).words()[..]].concat();
     let output = run(&arguments, &stored("demo.card"));
     assert_eq!(text(&output.stdout), expected);
     assert_eq!(output.status.code(), Some(0));
@@ -239,7 +239,7 @@ fn accepted(seed: u64, cards: u64) -> Vec<(Ledger, Requester)> {
     for input in inputs(seed, cards, 0) {
         let bytes = take_card(&input.bytes[..]).expect("a slice can be read");
         if let Ok(ledger) = card::read(&bytes) {
-            accepted.push((ledger, asking(&input).requester));
+            accepted.push((ledger, access_arguments(&input).requester));
         }
     }
     accepted
@@ -285,12 +285,12 @@ fn requesters_of_every_sort_are_drawn_often() {
     }
 }
 
-/// The seed, the index and the card fix it.
+/// The seed, the index and the card fix them.
 #[test]
-fn what_is_asked_is_drawn_again() {
-    let all = |seed| -> Vec<Asking> {
+fn the_same_arguments_are_drawn_again() {
+    let all = |seed| -> Vec<AccessArguments> {
         let cards = inputs(seed, 50, 0);
-        cards.map(|input| asking(&input)).collect()
+        cards.map(|input| access_arguments(&input)).collect()
     };
     assert_eq!(all(4), all(4));
     assert_ne!(all(4), all(5));
@@ -299,22 +299,32 @@ fn what_is_asked_is_drawn_again() {
 fn counts(inputs: impl Iterator<Item = Input>) -> AccessCounts {
     let mut counts = AccessCounts::default();
     for input in inputs {
-        counts.add(&asking(&input), &access_of(&input));
+        counts.add(&access_arguments(&input), &access_of(&input));
     }
     counts
+}
+
+/// Of 20,000 cards.
+#[test]
+fn every_sort_of_run_occurs_often() {
+    for (run, count) in counts(inputs(1, 20_000, 0)).runs() {
+        assert!(count >= 50, "{run}: {count}");
+    }
 }
 
 #[test]
 fn what_did_not_occur_is_named() {
     assert_eq!(counts(inputs(11, CARDS, 0)).missing(), [""; 0]);
     let missing = AccessCounts::default().missing();
-    // 6 sorts of answers, 9 refusals of drafts, 8 ways to write one, 6 bases.
-    assert_eq!(missing.len(), 6 + 9 + 8 + 6);
+    // 4 sorts of answers, 4 outcomes and 9 refusals of drafts, 8 ways to write
+    // one, 6 bases.
+    assert_eq!(missing.len(), 4 + 4 + 9 + 8 + 6);
     for what in [
         "tables of access",
         "cards refused by access",
         "requesters refused by access",
-        "tables with a draft that changes something",
+        "tables with a draft, with a new basis or number alone",
+        "tables with a draft, from deny to permit",
         "drafts refused by access with 14",
         "unusable drafts with a blank",
         "permit with basis 1 by access",
@@ -553,7 +563,7 @@ fn keep_going_counts_access_apart() {
 }
 
 fn access_of(input: &Input) -> Access {
-    answer(&input.bytes, &asking(input))
+    answer(&input.bytes, &access_arguments(input))
 }
 
 #[test]
@@ -599,9 +609,9 @@ fn lines_of_access_in_words() {
 #[test]
 fn every_line_of_access_is_explained() {
     for input in inputs(12, 200, 0) {
-        let asking = asking(&input);
+        let arguments = access_arguments(&input);
         for (place, line) in access_of(&input).to_string().lines().enumerate() {
-            let explained = access_line(&input.bytes, &asking, place).expect("it is explained");
+            let explained = access_line(&input.bytes, &arguments, place).expect("it is explained");
             assert_eq!(explained.line, line, "{}", input.file_name());
             assert!(explained.words.lines().count() >= 2);
             assert_ne!(access_in_words(line), "no line that access can print");

@@ -2,7 +2,7 @@
 
 use std::path::Path;
 
-use checker::access::{draft_of, Asking};
+use checker::access::{AccessArguments, UnusableDraft};
 use checker::bytes::hex;
 use checker::directive::Fields;
 use checker::explain::{access_in_words, access_line};
@@ -37,13 +37,15 @@ fn assert_prints(card: &Card, requester: [&str; 4], draft: &str, printed: &str, 
 fn changes_are_marked() {
     let printed = "record 0: deny, basis 4 (default)\n\
          record 1: permit, basis 4 (default), changes to deny, basis 3 (directive 2)\n\
-         record 2: permit, basis 4 (default), changes to deny, basis 3 (directive 2)\n";
+         record 2: permit, basis 4 (default), changes to deny, basis 3 (directive 2)\n\
+         records that change: 2\n";
     assert_prints(&sample(), Q, &digits(deny_all()), printed, 0);
     // For purpose 1 the default denies, and a permit changes it.
     let permit = numbered(7, draft(PERMIT, (PERSON, 600), 2, 0));
     let printed = "record 0: deny, basis 4 (default)\n\
          record 1: deny, basis 4 (default)\n\
-         record 2: deny, basis 4 (default), changes to permit, basis 3 (directive 7)\n";
+         record 2: deny, basis 4 (default), changes to permit, basis 3 (directive 7)\n\
+         records that change: 1\n";
     assert_prints(
         &sample(),
         ["600", "1", "1", "1"],
@@ -53,13 +55,15 @@ fn changes_are_marked() {
     );
 }
 
-/// A basis that alone changes is no change, nor is a draft that begins later
-/// one; the patient, and an author on their own record, stay.
+/// A new basis or number alone is no change, nor is a draft that begins later
+/// one; the patient, and an author on their own record, stay. The last line
+/// tells a draft that changes nothing from none.
 #[test]
 fn what_is_no_change_is_not_marked() {
     let now = "record 0: deny, basis 4 (default)\n\
          record 1: permit, basis 4 (default)\n\
-         record 2: permit, basis 4 (default)\n";
+         record 2: permit, basis 4 (default)\n\
+         records that change: 0\n";
     let permit = draft(PERMIT, (ROLE, 1), 0, 2);
     assert_prints(&sample(), Q, &digits(permit), now, 0);
     let later = over(1001, 2000, deny_all());
@@ -68,17 +72,20 @@ fn what_is_no_change_is_not_marked() {
     let lower = numbered(3, draft(DENY, (ROLE, 0), 0, 2));
     let directive = "deny, basis 3 (directive 5)";
     let printed = format!(
-        "record 0: deny, basis 4 (default)\nrecord 1: {directive}\nrecord 2: {directive}\n"
+        "record 0: deny, basis 4 (default)\nrecord 1: {directive}\nrecord 2: {directive}\n\
+         records that change: 0\n"
     );
     assert_prints(&after_a, Q, &digits(lower), &printed, 0);
     let patient = "record 0: permit, basis 1 (patient)\n\
          record 1: permit, basis 1 (patient)\n\
-         record 2: permit, basis 1 (patient)\n";
+         record 2: permit, basis 1 (patient)\n\
+         records that change: 0\n";
     let deny = digits(deny_all());
     assert_prints(&sample(), ["7", "1", "1", "0"], &deny, patient, 0);
     let author = "record 0: deny, basis 4 (default)\n\
          record 1: permit, basis 2 (author)\n\
-         record 2: permit, basis 4 (default), changes to deny, basis 3 (directive 2)\n";
+         record 2: permit, basis 4 (default), changes to deny, basis 3 (directive 2)\n\
+         records that change: 1\n";
     assert_prints(&sample(), ["501", "1", "1", "0"], &deny, author, 0);
 }
 
@@ -164,7 +171,11 @@ fn digits_that_cannot_be_used() {
         "0".repeat(1025),
         "0".repeat(1026),
     ] {
-        assert_eq!(draft_of(&draft), None);
+        let taken = AccessArguments {
+            draft: Some(draft.clone()),
+            ..arguments(deny_all())
+        };
+        assert_eq!(taken.draft_bytes(), Err(UnusableDraft));
         let arguments = [&["access"], &Q[..], &[draft.as_str()]].concat();
         let output = run(&arguments, &[]);
         assert_eq!(output.status.code(), Some(2), "{draft}");
@@ -199,10 +210,15 @@ fn programs_that_take_drafts_wrongly_are_found() {
             "test ${{#5}} -gt 1024 && echo draft refused: question 6 && exit 1; exec {run} \"$@\""
         ),
         format!("test ${{#5}} -gt 1022 && exit 2; exec {run} \"$@\""),
-        // The mark is missing, everything decided is as after, the number of 13
-        // is missing, the requester is looked at first.
+        // The mark is missing, everything decided is as after.
         format!("{of_draft}; sed 's/, changes to .*//' $0.out; exit $status"),
         format!("{of_draft}; sed 's/: .*, changes to /: /' $0.out; exit $status"),
+        // The last line is missing, or missing where nothing changes, or says
+        // that nothing does.
+        format!("{of_draft}; sed '/^records/d' $0.out; exit $status"),
+        format!("{of_draft}; sed '/^records.* 0$/d' $0.out; exit $status"),
+        format!("{of_draft}; sed 's/^\\(records.* \\).*/\\10/' $0.out; exit $status"),
+        // The number of 13 is missing, the requester is looked at first.
         format!("{of_draft}; sed 's/\\(question 13\\), .*/\\1/' $0.out; exit $status"),
         format!(
             "test $3 -gt 15 && echo requester refused: question 17 && exit 1; exec {run} \"$@\""
@@ -214,28 +230,29 @@ fn programs_that_take_drafts_wrongly_are_found() {
     }
 }
 
+/// What is quoted in the report on a program that prints nothing where the
+/// draft is like this pattern.
+fn quoted_draft(pattern: &str) -> String {
+    let run = format!("exec {CHECKER} access \"$@\"");
+    let without_draft = format!("test $# -eq 4 && {run}");
+    let text = format!("{without_draft}\ncase $5 in {pattern}) exit 0;; esac; {run}\n");
+    let program = script(&directory("access-quoted-scripts"), &text);
+    let arguments = ["--access", &program, "--cards", "1000", "--shrink", "0"];
+    let output = compare(&arguments, &directory("access-quoted"));
+    let shown = after(&output, "arguments ");
+    let (_, draft) = shown.split_once('\'').expect("a quoted argument");
+    draft.strip_suffix('\'').expect("its end").to_string()
+}
+
 /// A blank and an empty argument are quoted in the report.
 #[test]
 fn arguments_are_quoted_in_a_report() {
-    let folder = directory("access-quoted-scripts");
-    let out = directory("access-quoted");
-    for (wrong, shown) in [("''", "''"), ("*' '*", " ")] {
-        let text = format!("case \"$5\" in {wrong}) exit 0;; esac; exec {CHECKER} access \"$@\"\n");
-        let text = match wrong {
-            "''" => format!("test $# -eq 4 && exec {CHECKER} access \"$@\"\n{text}"),
-            _ => text,
-        };
-        let program = script(&folder, &text);
-        let arguments = ["--access", &program, "--cards", "1000", "--shrink", "0"];
-        let output = compare(&arguments, &out);
-        let arguments = after(&output, "arguments ");
-        assert!(arguments.ends_with('\''), "{arguments}");
-        assert!(arguments.contains(shown), "{arguments}");
-    }
+    assert_eq!(quoted_draft("''"), "");
+    assert!(quoted_draft("*' '*").contains(' '));
 }
 
-fn asking(draft: Fields) -> Asking {
-    Asking {
+fn arguments(draft: Fields) -> AccessArguments {
+    AccessArguments {
         requester: Requester {
             person: 600,
             role: 1,
@@ -262,6 +279,10 @@ fn lines_with_a_draft_in_words() {
             "draft refused: question 6",
             "the draft is refused by question 6: Is the draft 25 bytes long?",
         ),
+        ("records that change: 2", "the draft would change 2 records"),
+        ("records that change: 0", "the draft would change no records"),
+        ("records that change: 02", "no line that access can print"),
+        ("records that change", "no line that access can print"),
         ("draft refused: question 13", "no line that access can print"),
         ("draft refused: question 12, directive 9", "no line that access can print"),
         ("card refused: question 13, directive 9", "no line that access can print"),
@@ -271,7 +292,7 @@ fn lines_with_a_draft_in_words() {
     }
     let card = sample().bytes();
     let words = |draft, place| {
-        let explained = access_line(&card, &asking(draft), place).expect("there is such a line");
+        let explained = access_line(&card, &arguments(draft), place).expect("there is such a line");
         explained.words
     };
     let now = "Decide: person 600 in role 1 asks for access to record 1 from origin 1, for \
@@ -287,18 +308,25 @@ fn lines_with_a_draft_in_words() {
         ),
         (
             draft(PERMIT, (ROLE, 1), 1, 0),
-            format!("{before}, gets basis 3, directive 2. A new basis alone is no change."),
+            format!(
+                "{before}, gets basis 3, directive 2. A new basis or number alone is no change."
+            ),
         ),
         (over(1001, 2000, deny_all()), "no change.".to_string()),
     ] {
         assert_eq!(words(draft, 1), format!("{now}{change}"));
     }
+    let counted = words(deny_all(), 3);
+    assert!(counted.starts_with("Preview: directive 2 denies access by role 1"));
+    let changes = "\nWould change 2 of 3 records: records 1, 2.\n- record 1: ";
+    assert!(counted.contains(changes), "{counted}");
+    assert_eq!(access_line(&card, &arguments(deny_all()), 4), None);
     let refused = words(draft(PERMIT, (ROLE, 9), 1, 0), 0);
     assert!(refused.starts_with("Preview: directive 2 permits access by role 9"));
     assert!(refused.contains("\nRefused by question 8: "), "{refused}");
-    let unusable = Asking {
+    let unusable = AccessArguments {
         draft: Some("0".to_string()),
-        ..asking(deny_all())
+        ..arguments(deny_all())
     };
     assert_eq!(access_line(&card, &unusable, 0), None);
 }

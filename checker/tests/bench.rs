@@ -60,6 +60,7 @@ fn every_input_gives_what_is_meant() {
             "write",
             "preview",
             "preview-none",
+            "preview-one",
             "read"
         ]
     );
@@ -256,11 +257,15 @@ fn the_conflict_is_with_the_last_directive_alone() {
     }
 }
 
-/// The draft selects all records that it can, and is accepted. It matches the
-/// requester in one input, and in the other it does not.
+/// The draft selects all records that it can, or the last one alone, and is
+/// accepted. In one input it does not match the requester.
 #[test]
-fn previews_are_of_a_draft_over_everything() {
-    for (name, changes) in [("preview", 64), ("preview-none", 0)] {
+fn previews_are_of_drafts_over_everything_and_over_one_record() {
+    for (name, selected, changes) in [
+        ("preview", 127, 64),
+        ("preview-none", 127, 0),
+        ("preview-one", 1, 1),
+    ] {
         let measure = measure(name);
         let ledger = ledger(&measure);
         assert_eq!(ledger.register().roles().len(), 16);
@@ -274,8 +279,8 @@ fn previews_are_of_a_draft_over_everything() {
         let fields = Fields::decode(draft[..].try_into().expect("25 bytes"));
         assert_eq!(would_commit(&ledger, fields), Ok(()));
         let directive = Directive::from_fields(&fields).expect("the draft is in range");
-        assert_eq!(directive.selected(ledger.register()).count_ones(), 127);
-        let request = requester.query(1).at(ledger.clock());
+        assert_eq!(directive.selected(ledger.register()).count_ones(), selected);
+        let request = requester.query(127).at(ledger.clock());
         assert_eq!(directive.matches(ledger.register(), &request), changes > 0);
         let preview = ledger.preview(*requester, draft).expect("it is shown");
         assert_eq!(preview.words().count, changes);

@@ -99,8 +99,8 @@ fn every_topic_has_cases() {
     assert_eq!(near.count(), 5);
 }
 
-/// A case rests on decisions that are there, or on words of document 01 as
-/// docs/TRACEABILITY.md quotes them.
+/// A case rests on decisions that are there, or on words of documents 01 and 02
+/// as docs/TRACEABILITY.md quotes them.
 #[test]
 fn what_the_cases_rest_on_is_there() {
     let decisions = repository("docs/DECISIONS.md");

@@ -1,5 +1,5 @@
-//! Document 01's definitions in its words, as loops over every request, and
-//! its calls on a ledger that is judged by these loops.
+//! The definitions of documents 01 and 02 in their words, as loops over every
+//! request, and the calls on a ledger that is judged by these loops.
 
 use checker::answer::Answer;
 use checker::directive::{Effect, Fields};

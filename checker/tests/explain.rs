@@ -208,7 +208,7 @@ fn previews() {
         shown,
         format!(
             "Would change no decision on 3 records.\n\
-             - record 1: {default}, gets basis 3, directive 2. A new basis alone is no change."
+             - record 1: {default}, gets basis 3, directive 2. A new basis or number alone is no change."
         )
     );
     let later = over(1500, 2000, directive_a());

@@ -1,19 +1,14 @@
 //! The generator: what it reaches, and that a seed fixes it.
 
-use std::collections::{BTreeMap, BTreeSet};
+use std::collections::BTreeSet;
 
 use checker::answer::Answer;
-use checker::bytes::Bytes;
 use checker::card;
 use checker::compare::answers;
 use checker::counts::{Asked, Counts, Kind};
-use checker::directive::Fields;
 use checker::generate::{inputs, Input, InputKind};
-use checker::ledger::{Basis, Decision, Ledger};
-use checker::preview::Preview;
+use checker::preview_counts::PreviewCounts;
 use checker::refusal::Refusal;
-use checker::replay::Call;
-use checker::request::Requester;
 
 const CALLS: [&str; 8] = [
     "commit", "revoke", "advance", "issue", "decide", "brief", "write", "preview",
@@ -71,82 +66,6 @@ fn every_refusal_and_basis_occurs_often() {
     }
 }
 
-/// What a preview is, of what is wanted often.
-fn traits_of_preview(
-    before: &Ledger,
-    requester: Requester,
-    draft: &[u8],
-    shown: &Result<Preview, Refusal>,
-) -> Vec<&'static str> {
-    let words = shown.as_ref().ok().map(Preview::words);
-    let count = words.map_or(0, |words| words.count);
-    let by_author = |one: &Decision| one.basis == Basis::Author;
-    let later = |draft| Fields::decode(draft).from > before.clock();
-    let traits = [
-        ("on the empty ledger", *before == Ledger::default()),
-        ("of no draft", draft.is_empty()),
-        ("of 24 bytes", draft.len() == 24),
-        ("of 26 bytes", draft.len() == 26),
-        (
-            "that begins later",
-            shown.is_ok() && draft.try_into().is_ok_and(later),
-        ),
-        (
-            "for the patient",
-            shown.is_ok() && requester.person == before.patient(),
-        ),
-        (
-            "for an author",
-            shown
-                .as_ref()
-                .is_ok_and(|shown| shown.before.iter().any(by_author)),
-        ),
-        ("with one change", count == 1),
-        ("with several changes", count > 1),
-        (
-            "with changes above 63",
-            words.is_some_and(|words| words.words[1] != 0),
-        ),
-    ];
-    let held = traits.into_iter().filter(|(_, holds)| *holds);
-    held.map(|(what, _)| what).collect()
-}
-
-/// The kinds of previews in a replay, and whether commits of their drafts
-/// follow or the replay ends with less than a requester.
-fn previews(replay: &[u8]) -> Vec<&'static str> {
-    let mut seen = Vec::new();
-    let mut bytes = Bytes::new(replay);
-    let card = bytes
-        .u16()
-        .and_then(|length| bytes.take(usize::from(length)));
-    let mut ledger = card.map_or(Ledger::default(), |card| {
-        card::read(card).unwrap_or_default()
-    });
-    let mut shown_before = None;
-    while let Some((tag, value)) = bytes.field() {
-        let Some(call) = Call::decode(tag, value) else {
-            if tag == 0x17 {
-                seen.push("of less than 6 bytes");
-            }
-            break;
-        };
-        if let (Call::Preview { requester, draft }, Answer::Preview(shown)) =
-            (&call, call.run(&mut ledger))
-        {
-            seen.extend(traits_of_preview(&ledger, *requester, draft, &shown));
-        }
-        if matches!(&call, Call::Commit { draft } if shown_before.as_ref() == Some(draft)) {
-            seen.push("before the commit");
-        }
-        shown_before = match call {
-            Call::Preview { draft, .. } => Some(draft),
-            _ => None,
-        };
-    }
-    seen
-}
-
 /// Of 20,000 replays, without the long ones.
 #[test]
 fn every_refusal_and_outcome_of_a_preview_occurs_often() {
@@ -157,12 +76,28 @@ fn every_refusal_and_outcome_of_a_preview_occurs_often() {
             assert!(counts.of(kind) >= 500, "{kind}: {}", counts.of(kind));
         }
     }
-    let mut seen: BTreeMap<&str, u32> = BTreeMap::new();
-    for what in short().flat_map(|input| previews(&input.bytes)) {
-        *seen.entry(what).or_default() += 1;
+    let mut previews = PreviewCounts::default();
+    for input in short() {
+        previews.add(&input.bytes, &answered(&input));
     }
-    assert_eq!(seen.len(), 12);
-    assert!(seen.values().all(|count| *count >= 100), "{seen:?}");
+    assert_eq!(previews.missing(), [""; 0]);
+    for (feature, count) in previews.features() {
+        assert!(count >= 100, "{feature}: {count}");
+    }
+}
+
+/// 1,000 replays without a preview miss each of them, and no replays none.
+#[test]
+fn missing_features_of_previews_are_named() {
+    let mut previews = PreviewCounts::default();
+    assert_eq!(previews.missing(), [""; 0]);
+    for _ in 0..1000 {
+        previews.add(&[0, 0], &[Answer::Card(Err(Refusal::CardIncomplete))]);
+    }
+    let missing = previews.missing();
+    assert_eq!(missing.len(), previews.features().count());
+    let both = "previews with changes in both words (0 of ";
+    assert!(missing.iter().any(|what| what.starts_with(both)));
 }
 
 #[test]

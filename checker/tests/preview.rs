@@ -1,7 +1,6 @@
 //! Previews.
 
 use checker::answer::Answer;
-use checker::bytes::Bytes;
 use checker::card;
 use checker::directive::Fields;
 use checker::generate::inputs;
@@ -9,8 +8,8 @@ use checker::ledger::Ledger;
 use checker::preview::Outcome;
 use checker::random::Random;
 use checker::refusal::Refusal;
-use checker::replay::{encode, Call, Replay};
-use checker::request::Requester;
+use checker::replay::{decode, encode, Call, Decoded, Replay};
+use checker::request::{Query, Requester};
 
 use crate::definition::Model;
 use crate::small_world;
@@ -21,7 +20,8 @@ use crate::support::*;
 #[test]
 fn previews_agree_with_the_definition() {
     let mut random = Random::new(31);
-    let mut refused = [0; 25];
+    let mut refused = [0; 15];
+    let mut outside = 0;
     let mut by_count = [0; 4];
     for _ in 0..1000 {
         let card = small_world::card_with_directives(&mut random);
@@ -40,24 +40,33 @@ fn previews_agree_with_the_definition() {
                 _ => {}
             }
             let after = model.after_commit(&draft);
+            if let Err(refusal) = &after {
+                refused[usize::from(refusal.number())] += 1;
+            }
             for requester in requesters(card.roles.len() as u16) {
                 let before = ledger.clone();
-                let shown = ledger.preview(requester, &draft);
+                let draft = draft.clone();
+                let call = Call::Preview { requester, draft };
+                let Answer::Preview(shown) = call.run(&mut ledger) else {
+                    panic!("not the answer to a preview");
+                };
                 assert_eq!(ledger, before);
                 let words = shown.map(|preview| preview.words());
                 let expected = model.preview(&after, requester);
-                assert_eq!(words, expected, "{requester:?} {draft:?} on {ledger:?}");
+                assert_eq!(words, expected, "{call:?} on {ledger:?}");
                 match words {
                     Ok(words) => by_count[words.count as usize] += 1,
-                    Err(refusal) => refused[usize::from(refusal.number())] += 1,
+                    Err(Refusal::QueryRange) => outside += 1,
+                    Err(_) => {}
                 }
             }
         }
     }
-    // 11 needs 32 active directives.
-    for number in [6, 7, 8, 9, 10, 12, 13, 14, 17] {
-        assert!(refused[number] > 300, "{number}: {}", refused[number]);
+    // Of 6,000 drafts; 11 needs 32 active directives.
+    for number in [6, 7, 8, 9, 10, 12, 13, 14] {
+        assert!(refused[number] > 100, "{number}: {}", refused[number]);
     }
+    assert!(outside > 100_000, "{outside}");
     // Of four records a draft selects at most three.
     assert!(by_count.iter().all(|count| *count > 25), "{by_count:?}");
 }
@@ -124,32 +133,56 @@ fn line_by_decides(card: &[u8], before: &[Call], requester: Requester, draft: &[
 fn previews_agree_with_the_lines_of_commits_and_decides() {
     let mut shown = 0;
     let mut with_changes = 0;
-    for input in inputs(32, 0, 400).filter(|input| input.bytes.len() < 60_000) {
-        let mut bytes = Bytes::new(&input.bytes);
-        let length = bytes.u16().map(usize::from);
-        let Some(card) = length.and_then(|length| bytes.take(length)) else {
+    let mut above_63 = 0;
+    for input in inputs(32, 0, 1000).filter(|input| input.bytes.len() < 60_000) {
+        let Some(Decoded { card, calls, .. }) = decode(&input.bytes) else {
             continue;
         };
         let mut ledger = card::read(card).unwrap_or_default();
-        let mut before = Vec::new();
-        while let Some((tag, value)) = bytes.field() {
-            let Some(call) = Call::decode(tag, value) else {
-                break;
-            };
+        for (place, call) in calls.iter().enumerate() {
             let same = ledger.clone();
-            let line = call.run(&mut ledger).to_string();
-            if let Call::Preview { requester, draft } = &call {
-                assert_eq!(ledger, same);
-                let expected = line_by_decides(card, &before, *requester, draft);
-                assert_eq!(line, expected, "{}: {call:?}", input.file_name());
-                shown += usize::from(line.starts_with("0 "));
-                with_changes += usize::from(line.starts_with("0 ") && !line.ends_with(" 0"));
+            let answer = call.run(&mut ledger);
+            let Call::Preview { requester, draft } = call else {
+                continue;
+            };
+            assert_eq!(ledger, same);
+            let expected = line_by_decides(card, &calls[..place], *requester, draft);
+            assert_eq!(
+                answer.to_string(),
+                expected,
+                "{}: {call:?}",
+                input.file_name()
+            );
+            if let Answer::Preview(Ok(preview)) = answer {
+                shown += 1;
+                with_changes += u32::from(preview.changed() != 0);
+                above_63 += u32::from(preview.words().words[1] != 0);
             }
-            before.push(call);
         }
     }
-    assert!(shown > 200, "{shown}");
-    assert!(with_changes > 50, "{with_changes}");
+    assert!(shown > 500, "{shown}");
+    assert!(with_changes > 150, "{with_changes}");
+    assert!(above_63 > 5, "{above_63}");
+}
+
+/// The parts of a requester stand in their places beside the record.
+#[test]
+fn the_query_of_a_requester() {
+    let requester = Requester {
+        person: 1,
+        role: 2,
+        origin: 3,
+        purpose: 4,
+    };
+    let query = Query {
+        person: 1,
+        role: 2,
+        origin: 3,
+        record: 5,
+        purpose: 4,
+    };
+    assert_eq!(requester.query(5), query);
+    assert_eq!(query.requester(), requester);
 }
 
 /// The line of a preview on the sample ledger with these directives.
@@ -229,7 +262,7 @@ fn the_draft_is_refused_before_the_requester() {
 fn outcomes() {
     let outcome = |requester, draft: Fields| {
         let preview = sample().ledger().preview(requester, &draft.encode());
-        preview.map(|preview| (preview.outcome(), preview.with_a_new_basis()))
+        preview.map(|preview| (preview.outcome(), preview.with_a_new_basis_or_number()))
     };
     let q = requester_q();
     let permit = draft(PERMIT, (ROLE, 1), 0, 2);
@@ -238,9 +271,9 @@ fn outcomes() {
     let patient = Requester { person: 7, ..q };
     for (requester, draft, expected) in [
         (q, directive_a(), (Outcome::ToDeny, 0)),
-        (q, permit, (Outcome::BasisAlone, 6)),
+        (q, permit, (Outcome::BasisOrNumber, 6)),
         (research, permit, (Outcome::ToPermit, 0)),
-        (research, directive_a(), (Outcome::BasisAlone, 6)),
+        (research, directive_a(), (Outcome::BasisOrNumber, 6)),
         // Record 1 changes, and record 2 gets a new basis.
         (from_0, directive_a(), (Outcome::ToDeny, 4)),
         (from_0, permit, (Outcome::ToPermit, 2)),
@@ -249,6 +282,13 @@ fn outcomes() {
     ] {
         assert_eq!(outcome(requester, draft), Ok(expected));
     }
+    // Basis 3 with a lower number.
+    let after_5 = sample().with(&[numbered(5, directive_a())]).ledger();
+    let lower = numbered(3, draft(DENY, (ROLE, 0), 0, 2));
+    let preview = after_5.preview(q, &lower.encode());
+    let preview = preview.expect("the draft is accepted");
+    assert_eq!(preview.outcome(), Outcome::BasisOrNumber);
+    assert_eq!(preview.with_a_new_basis_or_number(), 6);
 }
 
 /// On the empty ledger no draft gets past 8.

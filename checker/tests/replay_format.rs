@@ -3,8 +3,8 @@
 use checker::bytes::{field, hex};
 use checker::directive::Fields;
 use checker::random::Random;
-use checker::replay::{encode, Call, Replay};
-use checker::request::Query;
+use checker::replay::{decode, encode, Call, Decoded, Replay};
+use checker::request::{Query, Requester};
 
 use crate::support::*;
 
@@ -26,7 +26,15 @@ fn a_line_for_the_card_and_each_call() {
     let permit_600 = numbered(65535, draft(PERMIT, (PERSON, 600), 1, 0));
     let calls = [
         Call::Decide(query_q()),
+        Call::Preview {
+            requester: requester_q(),
+            draft: directive_a().encode().to_vec(),
+        },
         commit_call(directive_a()),
+        Call::Preview {
+            requester: requester_q(),
+            draft: permit_600.encode().to_vec(),
+        },
         commit_call(permit_600),
         Call::Decide(query_q()),
         Call::Commit { draft: vec![0; 24] },
@@ -68,8 +76,8 @@ fn a_line_for_the_card_and_each_call() {
     let with_a = sample().with(&[directive_a()]).bytes();
     let write = format!("0 {} {}", with_a.len(), hex(&with_a));
     let expected = [
-        "0 3 0", "0 1 4", "0", "13 1", "0 0 3 1", "6", "6", "15", "0", "18", "0 2 0 1", "22", "24",
-        &write, "16", "0 1 1", "17", "0 1 1",
+        "0 3 0", "0 1 4", "0 6 0 2", "0", "13 1", "13 1", "0 0 3 1", "6", "6", "15", "0", "18",
+        "0 2 0 1", "22", "24", &write, "16", "0 1 1", "17", "0 1 1",
     ];
     assert_eq!(lines(&encode(&card, &calls)), expected);
 }
@@ -154,11 +162,35 @@ fn the_bytes_of_the_calls() {
             &[0x15, 0, 4, 1, 2, 3, 4],
         ),
         (Call::Write { buffer: 0x0102 }, &[0x16, 0, 2, 1, 2]),
+        (
+            Call::Preview {
+                requester: Requester {
+                    person: 0x0102,
+                    role: 0x0304,
+                    origin: 5,
+                    purpose: 6,
+                },
+                draft: vec![7, 8],
+            },
+            &[0x17, 0, 8, 1, 2, 3, 4, 5, 6, 7, 8],
+        ),
     ];
     for (call, bytes) in expected {
         assert_eq!(call.encode(), bytes);
         assert_eq!(Call::decode(bytes[0], &bytes[3..]), Some(call));
     }
+}
+
+#[test]
+fn a_replay_in_its_parts() {
+    let card = &sample().bytes()[..];
+    let calls = vec![Call::Decide(query_q()), Call::Write { buffer: 0x0102 }];
+    let whole = encode(card, &calls);
+    let (cut, before) = (&whole[..whole.len() - 1], calls[..1].to_vec());
+    let parts = |calls, rest| Some(Decoded { card, calls, rest });
+    assert_eq!(decode(&whole), parts(calls, &[]));
+    assert_eq!(decode(cut), parts(before, &[0x16, 0, 2, 1]));
+    assert_eq!(decode(&whole[..card.len() + 1]), None);
 }
 
 #[test]

@@ -6,16 +6,14 @@ use std::fs;
 use std::ops::RangeInclusive;
 use std::path::PathBuf;
 
-use checker::access::{draft_of, Asking};
 use checker::answer::Answer;
-use checker::bytes::Bytes;
 use checker::card;
 use checker::cardcheck::cardcheck;
 use checker::counts::{Asked, Counts, Kind};
 use checker::directive::Fields;
-use checker::generate::{asking, inputs, Input, InputKind};
+use checker::generate::{access_arguments, inputs, Input, InputKind};
 use checker::ledger::Ledger;
-use checker::replay::{encode, Call, Replay};
+use checker::replay::{decode, encode, Call, Decoded, Replay};
 
 /// How many generated replays of a seed the stored inputs are taken from.
 const REPLAYS: u64 = 2000;
@@ -137,19 +135,14 @@ struct Parts {
 impl Parts {
     /// Nothing where the card is refused or the replay is malformed.
     fn of(replay: &[u8]) -> Option<Parts> {
-        let mut bytes = Bytes::new(replay);
-        let length = bytes.u16()?;
-        let card = bytes.take(usize::from(length))?;
-        let mut calls = Vec::new();
-        while !bytes.is_empty() {
-            let (tag, value) = bytes.field()?;
-            calls.push(Call::decode(tag, value)?);
-        }
-        Some(Parts {
+        let Decoded { card, calls, rest } = decode(replay)?;
+        let ledger = card::read(card).ok()?;
+        let parts = Parts {
             card: card.to_vec(),
-            ledger: card::read(card).ok()?,
+            ledger,
             calls,
-        })
+        };
+        rest.is_empty().then_some(parts)
     }
 }
 
@@ -212,15 +205,16 @@ fn previews(ledger: &Ledger, so_far: &Counts) -> Vec<Call> {
     let mut shown = so_far.clone();
     let mut calls = Vec::new();
     for index in 0..REPLAYS {
-        let Asking { requester, draft } = asking(&Input {
+        let arguments = access_arguments(&Input {
             kind: InputKind::Card,
             seed: 0,
             index,
             bytes: card.clone(),
         });
-        let Some(draft) = draft.as_deref().and_then(draft_of) else {
+        let Ok(Some(draft)) = arguments.draft_bytes() else {
             continue;
         };
+        let requester = arguments.requester;
         let call = Call::Preview { requester, draft };
         let answer = call.run(&mut ledger.clone());
         if shown.of(Kind::of(&answer)) == 0 {

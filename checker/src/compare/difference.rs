@@ -137,9 +137,9 @@ impl Difference {
 impl fmt::Display for Difference {
     fn fmt(&self, f: &mut fmt::Formatter<'_>) -> fmt::Result {
         let input = &self.task.input;
-        if let Some(asking) = &self.task.asking {
-            let arguments: Vec<String> = asking.arguments().iter().map(|one| quoted(one)).collect();
-            writeln!(f, "arguments {}", arguments.join(" "))?;
+        if let Some(arguments) = &self.task.arguments {
+            let words: Vec<String> = arguments.words().iter().map(|one| quoted(one)).collect();
+            writeln!(f, "arguments {}", words.join(" "))?;
         }
         match input.bytes.split_at_checked(SHOWN) {
             Some((start, rest)) if !rest.is_empty() => {
@@ -154,7 +154,7 @@ impl fmt::Display for Difference {
             writeln!(f, "in parts of {} bytes", lengths.join(", "))?;
         }
         if self.end != self.expected_end {
-            if self.task.asking.is_some() {
+            if self.task.arguments.is_some() {
                 writeln!(f, "checker: {}", self.expected_end)?;
             }
             writeln!(f, "program: {}", self.end)?;

@@ -6,7 +6,7 @@ use crate::card::{DIRECTIVE, HEAD, RECORD, ROLES};
 use crate::directive::{ALL_PURPOSES, LENGTH, LENGTH_EDITION_1};
 use crate::generate::InputKind;
 use crate::replay::{
-    ADVANCE, BRIEF, COMMIT, DECIDE, ISSUE, PREVIEW, REQUESTER_LENGTH, REVOKE, WRITE,
+    framed_card, ADVANCE, BRIEF, COMMIT, DECIDE, ISSUE, PREVIEW, REQUESTER_LENGTH, REVOKE, WRITE,
 };
 
 /// What a number stands for. Equal numbers of one sense go together.
@@ -80,14 +80,17 @@ impl Document {
         };
         match kind {
             InputKind::Card => (document.card, document.card_rest) = fields(bytes),
-            InputKind::Replay => match split_card(bytes) {
-                Some((card, calls)) => {
-                    document.framed = true;
-                    (document.card, document.card_rest) = fields(card);
-                    (document.calls, document.rest) = fields(calls);
+            InputKind::Replay => {
+                let mut replay = Bytes::new(bytes);
+                match framed_card(&mut replay) {
+                    Some(card) => {
+                        document.framed = true;
+                        (document.card, document.card_rest) = fields(card);
+                        (document.calls, document.rest) = fields(replay.rest());
+                    }
+                    None => document.rest = raw(bytes),
                 }
-                None => document.rest = raw(bytes),
-            },
+            }
         }
         document
     }
@@ -199,12 +202,6 @@ fn closed_gap(gone: u32, parent: u32) -> impl Fn(u32) -> u32 {
         std::cmp::Ordering::Equal => parent,
         std::cmp::Ordering::Greater => number.saturating_sub(1),
     }
-}
-
-/// The card and the calls of a replay whose card stands whole.
-fn split_card(bytes: &[u8]) -> Option<(&[u8], &[u8])> {
-    let (length, rest) = bytes.split_first_chunk::<2>()?;
-    rest.split_at_checked(usize::from(u16::from_be_bytes(*length)))
 }
 
 /// The whole fields at the start, and what stands after them.

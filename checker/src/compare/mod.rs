@@ -17,9 +17,9 @@ mod task;
 use std::io;
 use std::time::Duration;
 
-use crate::access::Asking;
+use crate::access::AccessArguments;
 use crate::counts::Asked;
-use crate::generate::{asking, Input, InputKind};
+use crate::generate::{access_arguments, Input, InputKind};
 use crate::parts::parts;
 
 pub use difference::{Class, Difference, Line};
@@ -65,18 +65,18 @@ impl Programs {
         }
     }
 
-    /// What to ask `access`, with this input.
-    fn asking(&self, input: &Input) -> Option<Asking> {
+    /// The arguments of `access` with this input.
+    fn access_arguments(&self, input: &Input) -> Option<AccessArguments> {
         let asked = self.access.is_some() && input.kind == InputKind::Card;
-        asked.then(|| asking(input))
+        asked.then(|| access_arguments(input))
     }
 
     /// The program for this task, with its arguments.
     fn of(&self, task: &Task) -> Option<Program> {
-        match (&task.asking, task.input.kind) {
-            (Some(asking), _) => {
+        match (&task.arguments, task.input.kind) {
+            (Some(arguments), _) => {
                 let program = self.access.as_ref()?;
-                Some(program.with_arguments(asking.arguments()))
+                Some(program.with_arguments(arguments.words()))
             }
             (None, InputKind::Card) => self.cardcheck.clone(),
             (None, InputKind::Replay) => self.replay.clone(),

@@ -49,7 +49,7 @@ fn print_words(task: &Task, line: &Line, output: &mut impl Write) -> io::Result<
     if let Some(program) = &line.program {
         let program = program.strip_suffix('\n').unwrap_or(program);
         writeln!(output, "the program in words")?;
-        let words = match task.asking {
+        let words = match task.arguments {
             None => answer_in_words(kind, program),
             Some(_) => access_in_words(program),
         };
@@ -61,9 +61,9 @@ fn print_words(task: &Task, line: &Line, output: &mut impl Write) -> io::Result<
 /// What the checker's line of this number says.
 fn explained(task: &Task, number: usize) -> Option<Explained> {
     let place = number.checked_sub(1)?;
-    let Task { input, asking } = task;
-    match (asking, input.kind) {
-        (Some(asking), _) => access_line(&input.bytes, asking, place),
+    let Task { input, arguments } = task;
+    match (arguments, input.kind) {
+        (Some(arguments), _) => access_line(&input.bytes, arguments, place),
         (None, InputKind::Card) => (place == 0).then(|| card_line(&input.bytes)),
         (None, InputKind::Replay) => Explanations::of(&input.bytes).nth(place),
     }

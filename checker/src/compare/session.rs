@@ -17,8 +17,9 @@ use crate::access_counts::AccessCounts;
 use crate::counts::{Counts, Kind};
 use crate::extent::Extent;
 use crate::files;
-use crate::generate::{inputs, Input};
+use crate::generate::{inputs, Input, InputKind};
 use crate::parts::parts;
+use crate::preview_counts::PreviewCounts;
 
 /// What is compared, and how.
 #[derive(Clone, Debug, PartialEq, Eq)]
@@ -43,6 +44,7 @@ pub struct Session<'a, W> {
     output: &'a mut W,
     progress: Progress,
     counts: Counts,
+    preview_counts: PreviewCounts,
     access_counts: AccessCounts,
     extent: Extent,
     tally: Tally,
@@ -60,6 +62,7 @@ impl<'a, W: Write> Session<'a, W> {
             output,
             progress: Progress::new(),
             counts: Counts::default(),
+            preview_counts: PreviewCounts::default(),
             access_counts: AccessCounts::default(),
             extent: Extent::default(),
             tally: Tally::default(),
@@ -96,19 +99,22 @@ impl<'a, W: Write> Session<'a, W> {
         for answer in &expected.answers {
             self.counts.add(answer);
         }
+        if input.kind == InputKind::Replay {
+            self.preview_counts.add(&input.bytes, &expected.answers);
+        }
         let mut task = Task {
             input,
-            asking: None,
+            arguments: None,
         };
         if self.ends_at(&task, &expected)? {
             return Ok(true);
         }
-        task.asking = self.programs.asking(&task.input);
-        let Some(asking) = &task.asking else {
+        task.arguments = self.programs.access_arguments(&task.input);
+        let Some(arguments) = &task.arguments else {
             return Ok(false);
         };
-        let access = access(task.input.bytes.as_slice(), asking)?;
-        self.access_counts.add(asking, &access);
+        let access = access(task.input.bytes.as_slice(), arguments)?;
+        self.access_counts.add(arguments, &access);
         self.ends_at(&task, &Expected::of_access(&access))
     }
 
@@ -146,6 +152,9 @@ impl<'a, W: Write> Session<'a, W> {
         let asked = self.programs.asked();
         let extent = self.extent.table(asked);
         write!(self.output, "{}{extent}", self.counts)?;
+        if asked.replays {
+            write!(self.output, "{}", self.preview_counts)?;
+        }
         if self.programs.access.is_some() {
             write!(self.output, "{}", self.access_counts)?;
         }
@@ -157,6 +166,7 @@ impl<'a, W: Write> Session<'a, W> {
         let kinds = self.counts.missing(asked);
         let mut missing: Vec<String> = kinds.iter().map(Kind::to_string).collect();
         missing.extend(self.extent.missing(asked));
+        missing.extend(self.preview_counts.missing());
         if self.programs.access.is_some() {
             missing.extend(self.access_counts.missing());
         }

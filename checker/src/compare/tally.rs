@@ -20,7 +20,7 @@ pub struct Tally {
 impl Tally {
     /// Counts a difference. Tells whether it is the first of its class.
     pub fn add(&mut self, difference: &Difference) -> bool {
-        let class = (difference.task.asking.is_some(), difference.class());
+        let class = (difference.task.arguments.is_some(), difference.class());
         let entry = self.by_class.entry(class).or_insert(Entry {
             count: 0,
             first: difference.task.input.file_name(),

@@ -3,18 +3,17 @@
 use std::io;
 
 use super::process::End;
-use crate::access::{access, Access, Asking};
+use crate::access::{access, Access, AccessArguments};
 use crate::answer::Answer;
 use crate::cardcheck::cardcheck;
 use crate::generate::{Input, InputKind};
 use crate::replay::Replay;
 
-/// An input for `cardcheck` or `replay`, or with what is asked one for
-/// `access`.
+/// An input for `cardcheck` or `replay`, or with arguments one for `access`.
 #[derive(Clone, Debug, PartialEq, Eq)]
 pub struct Task {
     pub input: Input,
-    pub asking: Option<Asking>,
+    pub arguments: Option<AccessArguments>,
 }
 
 /// The lines that a program has to print, what they answer, and its end.
@@ -55,9 +54,11 @@ pub fn answers(input: &Input) -> io::Result<Vec<Answer>> {
 
 impl Task {
     pub fn expected(&self) -> io::Result<Expected> {
-        Ok(match &self.asking {
+        Ok(match &self.arguments {
             None => Expected::of_answers(answers(&self.input)?),
-            Some(asking) => Expected::of_access(&access(self.input.bytes.as_slice(), asking)?),
+            Some(arguments) => {
+                Expected::of_access(&access(self.input.bytes.as_slice(), arguments)?)
+            }
         })
     }
 
@@ -73,7 +74,7 @@ impl Task {
                 index,
                 bytes: bytes.to_vec(),
             },
-            asking: self.asking.clone(),
+            arguments: self.arguments.clone(),
         }
     }
 
@@ -81,7 +82,7 @@ impl Task {
     pub fn has_end(&self, end: End) -> bool {
         match end {
             End::Normal => true,
-            End::Status(status) => self.asking.is_some() && [1, 2].contains(&status),
+            End::Status(status) => self.arguments.is_some() && [1, 2].contains(&status),
             End::Signal(_) | End::NoEnd(_) | End::TooLong(_) => false,
         }
     }
@@ -90,7 +91,7 @@ impl Task {
     /// for two programs.
     pub fn small_name(&self) -> String {
         let name = self.input.file_name();
-        let small = match self.asking {
+        let small = match self.arguments {
             None => "small",
             Some(_) => "access.small",
         };

@@ -154,7 +154,7 @@ fn words() -> Vec<Case> {
         (
             "brief-record-127",
             "Record 127 is bit 63 of the second word; an implementation that leaves out the last \
-             record gives 0 0 0.",
+             record gives 0 0 0 0.",
             only(&[127]),
             "0 0 9223372036854775808 1",
         ),

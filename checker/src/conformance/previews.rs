@@ -70,14 +70,15 @@ fn changes() -> Vec<Case> {
         TOPIC.case(
             "preview-permit-to-deny",
             "A deny of records 1 and 2 changes both for Q, bits 1 and 2; an implementation that \
-             shows the decisions after it gives 7 or 0.",
+             shows what is permitted after it gives 0 0 0 0, and one that shows what is denied \
+             0 7 0 3.",
             GIVES,
             on_sample().preview(q, a, "0 6 0 2"),
         ),
         TOPIC.case(
             "preview-deny-to-permit",
             "A permit of record 1 changes it for purpose 1, which the default denies; an \
-             implementation that shows what becomes a deny gives 0 0 0.",
+             implementation that shows what becomes a deny gives 0 0 0 0.",
             CHANGE,
             on_sample().preview(
                 for_purpose_1(),
@@ -88,22 +89,22 @@ fn changes() -> Vec<Case> {
         TOPIC.case(
             "preview-new-basis-of-a-permit",
             "A permit of what the default permits is no change; an implementation that compares \
-             the bases gives 6 0 2.",
+             the bases gives 0 6 0 2.",
             CHANGE,
             on_sample().preview(q, permit_all, "0 0 0 0"),
         ),
         TOPIC.case(
             "preview-new-basis-of-a-deny",
             "A deny of what the default denies is no change; an implementation that compares the \
-             bases gives 6 0 2.",
+             bases gives 0 6 0 2.",
             CHANGE,
             on_sample().preview(for_purpose_1(), a, "0 0 0 0"),
         ),
         TOPIC.case(
             "preview-new-lowest-number",
             "A second deny with a lower number is no change, as basis 3 with another number is \
-             not; an implementation that compares whole decisions gives 6 0 2.",
-            CHANGE,
+             not; an implementation that compares whole decisions gives 0 6 0 2.",
+            Decisions("9.2"),
             on_sample().commit(numbered(5, a), "0").preview(
                 q,
                 numbered(3, draft(DENY, (ROLE, 0), 0, 2)),
@@ -113,15 +114,15 @@ fn changes() -> Vec<Case> {
         TOPIC.case(
             "preview-not-what-the-draft-selects",
             "A deny selects records 1 and 2, and from origin 0 only record 1 was permitted; an \
-             implementation that gives the selected records says 6 0 2.",
-            EQUALS,
+             implementation that shows the selected records gives 0 6 0 2.",
+            Decisions("9.4"),
             on_sample().preview(from_origin_0(), a, "0 2 0 1"),
         ),
         TOPIC.case(
             "preview-one-direction",
             "A draft has one effect, so its changes go one way: of records 1 and 2 a deny changes \
              the permitted one and a permit the denied one; an implementation that shows both \
-             gives 6 0 2 twice.",
+             gives 0 6 0 2 twice.",
             CHANGE,
             on_sample().preview(from_origin_0(), a, "0 2 0 1").preview(
                 from_origin_0(),
@@ -132,14 +133,14 @@ fn changes() -> Vec<Case> {
         TOPIC.case(
             "preview-filtered",
             "A deny with ps 0x0001 selects record 1 and not record 2, which has sensitivity 1 \
-             too; an implementation that goes by the reach gives 6 0 2.",
+             too; an implementation that goes by the reach gives 0 6 0 2.",
             EQUALS,
             on_sample().preview(q, Fields { ps: 0x0001, ..a }, "0 2 0 1"),
         ),
         TOPIC.case(
             "preview-beside-active-directives",
             "What active directives decide stays, and what the default decides changes; an \
-             implementation that decides by the draft alone gives 6 0 2.",
+             implementation that decides by the draft alone gives 0 6 0 2.",
             EQUALS,
             on_sample()
                 .commit(numbered(1, draft(DENY, (PERSON, 600), 2, 0)), "0")
@@ -158,21 +159,21 @@ fn requesters() -> Vec<Case> {
         TOPIC.case(
             "preview-for-the-patient",
             "A deny of role 1 changes nothing for the patient in role 1; an implementation that \
-             looks at directives alone gives 6 0 2.",
+             looks at directives alone gives 0 6 0 2.",
             EQUALS,
             on_sample().preview(by(7), a, "0 0 0 0"),
         ),
         TOPIC.case(
             "preview-for-an-author",
             "A deny of role 1 changes nothing for the author of record 1 there, and record 2 for \
-             the same person; an implementation without basis 2 gives 6 0 2.",
+             the same person; an implementation without basis 2 gives 0 6 0 2.",
             EQUALS,
             on_sample().preview(by(501), a, "0 4 0 1"),
         ),
         TOPIC.case(
             "preview-for-a-covered-role",
             "A deny of role 1 covers role 2 under it and not role 3; an implementation that \
-             compares roles gives 0 0 0 for role 2.",
+             compares roles gives 0 0 0 0 for role 2.",
             EQUALS,
             on_sample()
                 .preview(in_role(2), a, "0 6 0 2")
@@ -182,7 +183,7 @@ fn requesters() -> Vec<Case> {
         TOPIC.case(
             "preview-for-another-person",
             "A deny of person 600 changes nothing for person 601; an implementation that shows \
-             the draft for its own subject gives 6 0 2 twice.",
+             the draft for its own subject gives 0 6 0 2 twice.",
             GIVES,
             on_sample()
                 .preview(q, draft(DENY, (PERSON, 600), 0, 2), "0 6 0 2")
@@ -191,7 +192,7 @@ fn requesters() -> Vec<Case> {
         TOPIC.case(
             "preview-for-another-origin",
             "A deny for origin 0 alone changes nothing from origin 1; an implementation that \
-             leaves out the requester's origin gives 6 0 2.",
+             leaves out the requester's origin gives 0 6 0 2.",
             GIVES,
             on_sample()
                 .preview(
@@ -214,7 +215,7 @@ fn requesters() -> Vec<Case> {
         TOPIC.case(
             "preview-for-another-purpose",
             "A deny for purpose 1 alone changes nothing for treatment; an implementation that \
-             leaves out the requester's purpose gives 6 0 2.",
+             leaves out the requester's purpose gives 0 6 0 2.",
             GIVES,
             on_sample()
                 .preview(
@@ -244,8 +245,8 @@ fn at_the_clock() -> Vec<Case> {
         TOPIC.case(
             "preview-of-a-draft-that-begins-later",
             "A deny from minute 1001 on changes nothing at 1000, and everything it selects at \
-             1001; an implementation that shows what it will change gives 6 0 2 both times.",
-            GIVES,
+             1001; an implementation that shows what it will change gives 0 6 0 2 both times.",
+            Decisions("9.2"),
             on_sample()
                 .preview(q, over(1001, 2000, a), "0 0 0 0")
                 .advance(1001, "0 0 0")
@@ -254,7 +255,7 @@ fn at_the_clock() -> Vec<Case> {
         TOPIC.case(
             "preview-of-a-draft-that-ends-next",
             "A deny until 1001 matches at 1000, its last minute; an implementation that asks for \
-             a minute after the clock gives 0 0 0.",
+             a minute after the clock gives 0 0 0 0.",
             GIVES,
             on_sample().preview(q, over(0, 1001, a), "0 6 0 2"),
         ),
@@ -262,7 +263,7 @@ fn at_the_clock() -> Vec<Case> {
             "preview-after-an-advance",
             "The active deny ends at 2000 and is dropped, so that the same deny from then on \
              changes both records again; an implementation that keeps what decide gave before \
-             the advance gives 0 0 0.",
+             the advance gives 0 0 0 0.",
             EQUALS,
             on_sample()
                 .commit(a, "0")
@@ -273,7 +274,7 @@ fn at_the_clock() -> Vec<Case> {
         TOPIC.case(
             "preview-after-a-revoke",
             "A deny that is revoked no longer decides, and the same draft changes what it \
-             changed before; an implementation that counts revoked ones gives 0 0 0.",
+             changed before; an implementation where revoked ones still decide gives 0 0 0 0.",
             EQUALS,
             on_sample()
                 .commit(a, "0")
@@ -304,14 +305,14 @@ fn refused_drafts() -> Vec<Case> {
         TOPIC.case(
             "preview-7",
             "A draft with effect 2 is 7; an implementation that takes it for a permit gives \
-             0 0 0.",
+             0 0 0 0.",
             REFUSED,
             on_sample().preview(q, Fields { effect: 2, ..a }, "7"),
         ),
         TOPIC.case(
             "preview-8",
             "A draft of record 3 or of role 4, which the register lacks, is 8; an implementation \
-             that finds no record changed gives 0 0 0.",
+             that finds no record changed gives 0 0 0 0.",
             REFUSED,
             on_sample()
                 .preview(q, draft(DENY, (ROLE, 1), 3, 0), "8")
@@ -320,7 +321,7 @@ fn refused_drafts() -> Vec<Case> {
         TOPIC.case(
             "preview-9",
             "A draft until the clock is 9; an implementation that finds nothing matched at the \
-             clock gives 0 0 0.",
+             clock gives 0 0 0 0.",
             REFUSED,
             on_sample()
                 .preview(q, over(0, 1000, a), "9")
@@ -329,21 +330,21 @@ fn refused_drafts() -> Vec<Case> {
         TOPIC.case(
             "preview-10",
             "A draft whose number is active is 10; an implementation that does not commit it \
-             gives 0 0 0.",
+             gives 0 0 0 0.",
             REFUSED,
             on_sample().commit(a, "0").preview(q, a, "10"),
         ),
         TOPIC.case(
             "preview-11",
             "With 32 active a draft is 11; an implementation that needs no place for a preview \
-             gives 6 0 2.",
+             gives 0 6 0 2.",
             REFUSED,
             on(&sample().with(&denies(32))).preview(q, numbered(99, a), "11"),
         ),
         TOPIC.case(
             "preview-12",
             "A deny of the patient, and of an author on their own record, are 12, whoever asks; \
-             an implementation that decides for Q gives 0 0 0.",
+             an implementation that decides for the requester alone gives 0 0 0 0.",
             REFUSED,
             on_sample()
                 .preview(q, draft(DENY, (PERSON, 7), 0, 0), "12")
@@ -372,7 +373,7 @@ fn refused_drafts() -> Vec<Case> {
         TOPIC.case(
             "preview-14",
             "A deny that an active one includes, and a permit that selects no record, are 14; an \
-             implementation that puts 6 to 13 alone gives 0 0 0.",
+             implementation that puts 6 to 13 alone gives 0 0 0 0.",
             REFUSED,
             on_sample()
                 .commit(a, "0")
@@ -382,7 +383,7 @@ fn refused_drafts() -> Vec<Case> {
         TOPIC.case(
             "preview-14-by-several-together",
             "Two directives cover the draft together, one after the other: 14; an implementation \
-             that judges by single directives gives 0 0 0.",
+             that judges by single directives gives 0 0 0 0.",
             REFUSED,
             on_sample()
                 .commit(over(1000, 1500, a), "0")
@@ -405,18 +406,18 @@ fn refused_requesters() -> Vec<Case> {
     vec![
         TOPIC.case(
             "preview-17-role",
-            "Roles 4 and 256, which the register lacks, are 17 and role 3 is not; an \
-             implementation that reads one byte of a role shows changes for 256.",
+            "Roles 4 and 257, which the register lacks, are 17 and role 3 is not; an \
+             implementation that reads the low byte alone gives 0 6 0 2 for 257.",
             REFUSED,
             on_sample()
                 .preview(Requester { role: 4, ..q }, a, "17")
-                .preview(Requester { role: 256, ..q }, a, "17")
+                .preview(Requester { role: 257, ..q }, a, "17")
                 .preview(Requester { role: 3, ..q }, a, "0 0 0 0"),
         ),
         TOPIC.case(
             "preview-17-origin",
             "Origin 16 is 17 and origin 15 is not; an implementation that finds no change for it \
-             gives 0 0 0.",
+             gives 0 0 0 0.",
             REFUSED,
             on_sample()
                 .preview(Requester { origin: 16, ..q }, a, "17")
@@ -426,7 +427,7 @@ fn refused_requesters() -> Vec<Case> {
         TOPIC.case(
             "preview-17-purpose",
             "Purpose 11 is 17 and purpose 10 is not; an implementation that finds no change for \
-             it gives 0 0 0.",
+             it gives 0 0 0 0.",
             REFUSED,
             on_sample()
                 .preview(Requester { purpose: 11, ..q }, a, "17")
@@ -436,8 +437,8 @@ fn refused_requesters() -> Vec<Case> {
         TOPIC.case(
             "preview-17-patient",
             "The patient in role 4 is 17 as anybody; an implementation that lets the patient \
-             pass gives 0 0 0.",
-            Decisions("4.1"),
+             pass gives 0 0 0 0.",
+            Decisions("4.1 9.1"),
             on_sample().preview(
                 Requester {
                     person: 7,
@@ -451,15 +452,15 @@ fn refused_requesters() -> Vec<Case> {
         TOPIC.case(
             "preview-17-draft-that-begins-later",
             "A draft that changes nothing yet is accepted, and then the requester is put to 17; \
-             an implementation that skips them answers 0 0 0 0.",
-            REFUSED,
+             an implementation that skips them gives 0 0 0 0.",
+            Decisions("9.1"),
             on_sample().preview(outside, over(1500, 2000, a), "17"),
         ),
         TOPIC.case(
             "preview-14-before-17",
             "A redundant draft is 14 for a requester out of every range; an implementation that \
              puts 17 first, or 14 last, answers 17.",
-            REFUSED,
+            Decisions("9.1"),
             on_sample()
                 .commit(a, "0")
                 .preview(outside, draft(DENY, (ROLE, 2), 1, 1), "14"),
@@ -502,7 +503,7 @@ fn the_ledger_stays() -> Vec<Case> {
         TOPIC.case(
             "preview-leaves-its-number-free",
             "After a preview of directive 1 a revoke of it is 15 and its commit is accepted; an \
-             implementation that keeps the draft answers 0 and 10.",
+             implementation that keeps the draft answers 0 to the revoke.",
             EQUAL,
             on_sample()
                 .preview(q, a, "0 6 0 2")
@@ -536,14 +537,14 @@ fn the_ledger_stays() -> Vec<Case> {
         ),
         TOPIC.case(
             "preview-takes-no-place",
-            "With 31 active a preview takes the last place of a copy alone, so that the commit \
-             is the 32nd and a next preview 11; an implementation that keeps the draft answers 11 \
-             to the commit.",
+            "With 31 active a preview takes the last place of a copy alone, so that a commit of \
+             another number is the 32nd and a next preview 11; an implementation that keeps the \
+             draft answers 11 to the commit.",
             EQUAL,
             on(&full_but_one)
                 .preview(q, numbered(99, a), "0 6 0 2")
-                .commit(numbered(99, a), "0")
-                .preview(q, numbered(100, a), "11"),
+                .commit(numbered(100, a), "0")
+                .preview(q, numbered(101, a), "11"),
         ),
         TOPIC.case(
             "preview-refused-leaves-the-ledger",
@@ -584,7 +585,8 @@ fn full_register() -> Vec<Case> {
         TOPIC.case(
             "preview-all-but-the-root",
             "A deny of all descendants of record 0 changes 127 records, all but bit 0; an \
-             implementation that takes reach 2 with the record itself changes 128.",
+             implementation that takes reach 2 with the record itself gives 0 \
+             18446744073709551615 18446744073709551615 128.",
             GIVES,
             on(&full()).preview(
                 stranger,
@@ -607,7 +609,7 @@ fn full_register() -> Vec<Case> {
             "preview-past-the-last-record",
             "Of 65 records the second word has bit 0 alone; an implementation that goes through \
              128 places sets the rest or stops.",
-            GIVES,
+            Decisions("9.2"),
             on(&sixty_five).preview(stranger, deny(0, 2), "0 18446744073709551614 1 64"),
         ),
     ]
@@ -619,7 +621,8 @@ fn the_empty_ledger() -> Vec<Case> {
     vec![TOPIC.case(
         "preview-on-the-empty-ledger",
         "On the empty ledger a draft is 6, 7 or 8, for a person and for a role; an \
-         implementation that finds no record to change gives 0 0 0, or 17 for the role.",
+         implementation that finds no record to change gives 0 0 0 0, and one that looks at the \
+         requester first 17.",
         REFUSED,
         on_empty()
             .preview_bytes(q, &[], "6")
@@ -681,7 +684,8 @@ fn lengths() -> Vec<Case> {
     cases.push(TOPIC.case(
         "preview-value-of-6-bytes",
         "Six bytes are a requester and no draft, 6, and 31 a whole preview: person 600, role 1, \
-         origin 1, purpose 0; a program with another order of these finds nothing changed.",
+         origin 1, purpose 0; a program that takes the purpose before the origin gives 0 0 0 0 \
+         for these, and one that takes the role before the person 17.",
         source,
         on_sample()
             .field(PREVIEW, &requester, "6")

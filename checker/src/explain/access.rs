@@ -2,11 +2,11 @@
 
 use super::line::{decimal, question_in_words};
 use super::{answer, call, card_words, Explained};
-use crate::access::{draft_of, Access, Asking};
+use crate::access::{Access, AccessArguments};
 use crate::answer::Answer;
 use crate::card::{Reading, Stage};
 use crate::cardcheck::CARD_LIMIT;
-use crate::describe::{decision, Words};
+use crate::describe::{counted, decision, Words};
 use crate::directive::Effect;
 use crate::kind::Kind;
 use crate::ledger::{Basis, Decision, Ledger};
@@ -14,18 +14,16 @@ use crate::replay::Call;
 use crate::request::Requester;
 
 /// Explains the line at this place, counted from 0, that `access` prints for
-/// this input and what is asked.
-pub fn access_line(input: &[u8], asking: &Asking, place: usize) -> Option<Explained> {
+/// this input and these arguments.
+pub fn access_line(input: &[u8], arguments: &AccessArguments, place: usize) -> Option<Explained> {
     let card = input.get(..usize::from(CARD_LIMIT)).unwrap_or(input);
-    let draft = match &asking.draft {
-        None => None,
-        Some(argument) => Some(draft_of(argument)?),
-    };
+    let draft = arguments.draft_bytes().ok()?;
+    let requester = arguments.requester;
     let reading = Reading::of(card);
     let (access, kind, words) = match (&reading.stage, reading.stop) {
         (Stage::Register { ledger, .. }, None) => {
-            let access = Access::of(ledger, asking.requester, draft.as_deref());
-            let (kind, words) = in_words(ledger, asking.requester, draft, &access, place)?;
+            let access = Access::of(ledger, requester, draft.as_deref());
+            let (kind, words) = in_words(ledger, requester, draft, &access, place)?;
             (access, kind, words)
         }
         (_, Some(stop)) => {
@@ -43,7 +41,8 @@ pub fn access_line(input: &[u8], asking: &Asking, place: usize) -> Option<Explai
 }
 
 /// The request on the record of this place, its decision and what the draft
-/// makes of it; or who asks, with what draft, and why that is refused.
+/// makes of it; or who asks, with what draft, and what it changes or why that is
+/// refused.
 fn in_words(
     ledger: &Ledger,
     requester: Requester,
@@ -53,13 +52,18 @@ fn in_words(
 ) -> Option<(Kind, Vec<String>)> {
     let decide = Call::Decide(requester.query(u8::try_from(place).ok()?));
     let (call, answer, change) = match (access, draft) {
-        (Access::Preview(preview), _) => {
-            let (_, before, after) = preview.decisions().nth(place)?;
-            let change = answer::change(before, after);
-            let change = change.unwrap_or_else(|| "no change.".to_string());
-            let answer = Answer::Decide(Ok(before));
-            (decide, answer, Some(format!("With the draft: {change}")))
-        }
+        (Access::Preview(preview), Some(draft)) => match preview.decisions().nth(place) {
+            Some((_, before, after)) => {
+                let change = answer::change(before, after);
+                let change = change.unwrap_or_else(|| "no change.".to_string());
+                let answer = Answer::Decide(Ok(before));
+                (decide, answer, Some(format!("With the draft: {change}")))
+            }
+            None => {
+                let call = Call::Preview { requester, draft };
+                (call, Answer::Preview(Ok(preview.clone())), None)
+            }
+        },
         (Access::DraftRefused(refusal) | Access::RequesterRefused(refusal), Some(draft)) => {
             let call = Call::Preview { requester, draft };
             (call, Answer::Preview(Err(*refusal)), None)
@@ -85,6 +89,7 @@ pub fn access_in_words(line: &str) -> String {
         Some(("card refused", rest)) => refused("card", Kind::Card, rest),
         Some(("draft refused", rest)) => refused("draft", Kind::Commit, rest),
         Some(("requester refused", rest)) => refused("requester", Kind::Decide, rest),
+        Some(("records that change", count)) => change_count(count),
         Some((record, rest)) => decided(record, rest),
         None => None,
     };
@@ -106,6 +111,11 @@ fn refused(what: &str, kind: Kind, rest: &str) -> Option<String> {
         (Kind::Commit, 13, None) | (_, _, Some(_)) => None,
         _ => Some(format!("the {what} is {words}")),
     }
+}
+
+fn change_count(count: &str) -> Option<String> {
+    let records = counted(decimal(count)?, "record");
+    Some(format!("the draft would change {records}"))
 }
 
 fn decided(record: &str, rest: &str) -> Option<String> {

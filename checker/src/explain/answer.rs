@@ -162,8 +162,8 @@ fn disclosed(ledger: &Ledger, number: u16, brief: RecordWords) -> String {
     )
 }
 
-/// Which records would change, each before and after, and those whose basis
-/// alone would.
+/// Which records would change, each before and after, and those that would have
+/// a new basis or number alone.
 fn previewed(preview: &Preview) -> Vec<String> {
     let all = counted(preview.before.len(), "record");
     let changed = preview.changed();
@@ -182,7 +182,7 @@ fn previewed(preview: &Preview) -> Vec<String> {
     lines
 }
 
-/// What becomes of a decision; nothing where it stays with its basis.
+/// What becomes of a decision; nothing where it stays with its basis and number.
 pub fn change(before: Decision, after: Decision) -> Option<String> {
     if before == after {
         return None;
@@ -190,7 +190,7 @@ pub fn change(before: Decision, after: Decision) -> Option<String> {
     let words = decision(before);
     Some(if before.effect == after.effect {
         let after = basis(after.basis);
-        format!("{words}, gets {after}. A new basis alone is no change.")
+        format!("{words}, gets {after}. A new basis or number alone is no change.")
     } else {
         format!("{words}, becomes {}.", decision(after))
     })

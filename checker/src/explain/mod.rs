@@ -17,7 +17,7 @@ use crate::describe::refused;
 use crate::kind::Kind;
 use crate::ledger::Ledger;
 use crate::reason;
-use crate::replay::{Call, Replay};
+use crate::replay::{take_call, Replay};
 
 /// A line with its words.
 #[derive(Clone, Debug, PartialEq, Eq)]
@@ -117,8 +117,7 @@ impl<'a> Explanations<'a> {
     fn call(&self, before: &Ledger, left: usize, answer: &Answer) -> (Option<Kind>, Vec<String>) {
         let offset = self.input.len().saturating_sub(left);
         let rest = self.input.get(offset..).unwrap_or_default();
-        let field = Bytes::new(rest).field();
-        match field.and_then(|(tag, value)| Call::decode(tag, value)) {
+        match take_call(&mut Bytes::new(rest)) {
             Some(call) => {
                 let after = self.replay.ledger().unwrap_or(before);
                 let mut words = vec![call::in_words(before, &call)];

@@ -1,14 +1,13 @@
 //! Damage to cards and replays.
 
-use crate::bytes::{field, push_field};
+use crate::bytes::{field, push_field, VALUE};
 use crate::card::{DIRECTIVE, HEAD, RECORD, ROLES};
 use crate::cardcheck::CARD_LIMIT;
 use crate::random::Random;
 use crate::register::MAX_RECORDS;
-use crate::replay::{PREVIEW, REQUESTER_LENGTH};
-
-/// Where the value of a field starts.
-const VALUE: usize = 3;
+use crate::replay::{
+    ADVANCE, BRIEF, COMMIT, DECIDE, ISSUE, PREVIEW, REQUESTER_LENGTH, REVOKE, WRITE,
+};
 
 /// The fields of a card with one or two things damaged.
 pub fn card(mut fields: Vec<Vec<u8>>, random: &mut Random) -> Vec<u8> {
@@ -231,10 +230,10 @@ pub fn replay(mut bytes: Vec<u8>, random: &mut Random) -> Vec<u8> {
             bytes.extend(field(tag, &[0, 0]));
         }
         2..=4 => {
-            let tag = random.pick(&[0x11, 0x12, 0x13, 0x14, 0x15, 0x16, 0x17]);
+            let tag = random.pick(&[REVOKE, ADVANCE, ISSUE, DECIDE, BRIEF, WRITE, PREVIEW]);
             let length = random.pick(&[0, 1, 2, 3, 4, 5, 6, 7, 8, 9, 10]);
             bytes.extend(field(tag, &vec![0; length]));
-            bytes.extend(field(0x10, &[]));
+            bytes.extend(field(COMMIT, &[]));
         }
         5 => {
             let length = random.pick(&[0x00, 0x01, 0xFF]);

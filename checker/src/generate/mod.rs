@@ -1,7 +1,7 @@
-//! The seeded generator of cards and replays, and of what `access` is asked
+//! The seeded generator of cards and replays, and of arguments for `access`
 //! with a card. An input depends on the seed and its index alone.
 
-mod asking;
+mod access_arguments;
 mod calls;
 mod damage;
 mod drafts;
@@ -15,9 +15,8 @@ use crate::card;
 use crate::directive::Fields;
 use crate::random::Random;
 use crate::replay;
-pub use asking::asking;
+pub use access_arguments::access_arguments;
 pub use long::{LONGEST, MANY_CALLS};
-pub use requester::requester;
 use scene::{Profile, Scene};
 
 /// Which of the two kinds of input.

@@ -55,9 +55,8 @@ fn requester(scene: &Scene, random: &mut Random, draft: &[u8]) -> Requester {
     query.requester()
 }
 
-/// Asks for what the draft decides, and the default consent otherwise: a role
-/// by a stranger, and what is denied for treatment from an origin of the
-/// record.
+/// Makes a change likely: a stranger where the draft names a role; treatment
+/// from an origin of the record where it denies.
 fn stand_to_change(scene: &Scene, random: &mut Random, draft: &Fields, query: &mut Query) {
     if draft.kind == 1 {
         query.person = random.pick(&scene.strangers());

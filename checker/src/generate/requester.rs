@@ -12,17 +12,17 @@ use crate::request::{Requester, ORIGINS, PURPOSES};
 /// The requester that the seed and the index of a card give: the patient, an
 /// author, a person that a directive names, or another one. Most often a
 /// directive covers what they present, or the default consent permits it; at
-/// times a part of it is out of its range.
-pub fn requester(card: &Input) -> Requester {
+/// times a part of it is out of its range. The ledger is what is read of the
+/// card.
+pub fn requester(card: &Input, ledger: &Ledger) -> Requester {
     let mut random = Random::of_input(card.seed, 5, card.index);
-    let ledger = read_so_far(card);
-    let mut requester = plain(&ledger, &mut random);
+    let mut requester = plain(ledger, &mut random);
     let directive = random.index(ledger.active().len());
     if let (Some(directive), true) = (ledger.active().get(directive), random.chance(60)) {
-        aim(&ledger, directive, &mut random, &mut requester);
+        aim(ledger, directive, &mut random, &mut requester);
     }
     if random.chance(25) {
-        change(&ledger, &mut random, &mut requester);
+        change(ledger, &mut random, &mut requester);
     }
     requester
 }

@@ -55,7 +55,8 @@ pub struct Scene {
     /// Most directives are on one record and one person.
     pub narrow: bool,
     pub effects: Effects,
-    /// Directives of the card, of commits and of previews, accepted or not.
+    /// Directives of the card, of commits and of previews, accepted or not; a
+    /// wide draft that is previewed is not among them.
     pub drafts: Vec<Fields>,
     pub tokens: Vec<TriedToken>,
 }

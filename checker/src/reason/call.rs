@@ -40,7 +40,7 @@ fn not_active(ledger: &Ledger) -> String {
     }
 }
 
-/// Question 17, where a record is named with its record.
+/// Question 17; its record part only where a record is given.
 fn outside(ledger: &Ledger, requester: Requester, record: Option<u8>) -> Vec<String> {
     let register = ledger.register();
     let Requester {
@@ -157,7 +157,7 @@ pub fn malformed_call(rest: &[u8], offset: usize) -> Vec<String> {
             "{at}: a call begins with a tag and a two-byte length, and the replay has {left} left."
         )];
     };
-    let length = u16::from_be_bytes([*high, *low]);
+    let length = usize::from(u16::from_be_bytes([*high, *low]));
     let mut wrong = Vec::new();
     match Kind::of_tag(*tag) {
         None => wrong.push(format!("{at}: no call has the tag {}.", hex_byte(*tag))),
@@ -169,7 +169,7 @@ pub fn malformed_call(rest: &[u8], offset: usize) -> Vec<String> {
         }
         Some(_) => {}
     }
-    if value.len() < usize::from(length) {
+    if value.len() < length {
         let left = counted(value.len(), "byte");
         wrong.push(format!(
             "{at}: the call's length says {length} bytes, and the replay has {left} after it."

@@ -1,10 +1,10 @@
-//! What `access` is asked with a card.
+//! Arguments for `access` with a card.
 
 use super::drafts;
 use super::requester::{read_so_far, requester};
 use super::scene::Scene;
 use super::Input;
-use crate::access::{Asking, MOST_DRAFT_DIGITS};
+use crate::access::{AccessArguments, MOST_DRAFT_DIGITS};
 use crate::bytes::hex;
 use crate::directive::{Effect, Fields};
 use crate::ledger::{Basis, Ledger, MAX_ACTIVE};
@@ -13,15 +13,15 @@ use crate::request::{Requester, ORIGINS, PURPOSES};
 
 /// The requester that the seed and the index of a card give, and in about half
 /// of the cases a draft.
-pub fn asking(card: &Input) -> Asking {
-    let mut random = Random::of_input(card.seed, 6, card.index);
-    let requester = requester(card);
+pub fn access_arguments(card: &Input) -> AccessArguments {
     let ledger = read_so_far(card);
+    let requester = requester(card, &ledger);
+    let mut random = Random::of_input(card.seed, 6, card.index);
     let draft = random.chance(55).then(|| {
         let draft = draft(&ledger, requester, &mut random);
         argument(&hex(&draft), &mut random)
     });
-    Asking { requester, draft }
+    AccessArguments { requester, draft }
 }
 
 /// A draft that covers the requester, one that says again what an active
