@@ -4,6 +4,7 @@ use std::fs;
 use std::path::Path;
 use std::process::Output;
 
+use checker::bench::measures;
 use checker::bytes::{field, hex};
 use checker::generate::{inputs, Input};
 use checker::parts::parts;
@@ -245,7 +246,7 @@ fn bench_stores_its_inputs() {
     let output = run(&["bench", path_text(&path)], &[]);
     assert!(output.status.success());
     let list = text(&output.stdout);
-    assert_eq!(list.lines().count(), 10);
+    assert_eq!(list.lines().count(), measures().len());
     for line in list.lines() {
         let words: Vec<&str> = line.split(' ').collect();
         let [name, kind, count, timed] = words[..] else {
