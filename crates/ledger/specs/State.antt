@@ -1,6 +1,10 @@
 -- The ledger's view as lists; the empty ledger.
+use Prim.Native.Nat.{ℕ}
+use Rattle.register.specs.declared.Register.{Register}
 use Rattle.register.specs.Register.{contents, emptyRegister}
+use Rattle.active.specs.declared.ActiveList.{ActiveList}
 use Rattle.active.specs.Active.{directivesOf, emptyList}
+use Rattle.emergency.specs.declared.TokenList.{TokenList}
 use Rattle.emergency.specs.Tokens.{tokensOf, emptyTokens}
 use Rattle.ledger_model.specs.Model.{Model}
 use Rattle.ledger.specs.declared.Ledger.{Ledger}
@@ -19,3 +23,8 @@ view l =
 -- "The empty ledger has patient 0, clock 0 and nothing else."
 unfoldable pub emptyLedger : Ledger
 emptyLedger = record { patient = 0; clock = 0; register = emptyRegister; active = emptyList; tokens = emptyTokens }
+
+-- the ledger of these parts
+abbrev pub ledgerFrom : ℕ → ℕ → Register → ActiveList → TokenList → Ledger
+ledgerFrom patient clock register active tokens =
+    record { patient = patient; clock = clock; register = register; active = active; tokens = tokens }

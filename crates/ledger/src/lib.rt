@@ -3,7 +3,7 @@ use active::ActiveList;
 use emergency::TokenList;
 use register::Register;
 ghost use mathlib.Core.Path.{_≡_};
-ghost use Rattle.ledger.specs.State.{emptyLedger};
+ghost use Rattle.ledger.specs.State.{emptyLedger, ledgerFrom};
 
 pub mod answer;
 pub mod calls;
@@ -12,7 +12,7 @@ pub mod decision;
 pub mod enrolment;
 pub mod views;
 
-// The fields are private, so that no other crate makes a ledger that does not keep the invariant.
+// The fields are private: a ledger comes from `empty`, from reading a card, from a call, or back from where it was stored (`from_parts`).
 pub struct Ledger {
     patient: u16,
     clock: u32,
@@ -31,6 +31,25 @@ pub fn empty() -> Ledger
     Ledger {
         patient: 0,
         clock: 0,
+        register: register,
+        active: active,
+        tokens: tokens,
+    }
+}
+
+// A ledger from its parts, for one that was stored. Nothing is tested: of parts that no ledger of document 01 has, the answers are free.
+pub fn from_parts(
+    patient: u16,
+    clock: u32,
+    register: Register,
+    active: ActiveList,
+    tokens: TokenList,
+) -> Ledger
+    ensures { λ l. ⌜ l ≡ ledgerFrom patient clock register active tokens ⌝ }
+{
+    Ledger {
+        patient: patient,
+        clock: clock,
         register: register,
         active: active,
         tokens: tokens,

@@ -1,6 +1,7 @@
 // What a ledger holds, for the crates above: its fields are private.
 use crate::Ledger;
 use active::ActiveList;
+use emergency::TokenList;
 use register::Register;
 ghost use mathlib.Core.Path.{_≡_};
 ghost use lib.ListN.{length};
@@ -28,6 +29,12 @@ pub fn active_of(l: Ledger) -> ActiveList
     ensures { λ a. ⌜ a ≡ l .active ⌝ }
 {
     l.active
+}
+
+pub fn tokens_of(l: Ledger) -> TokenList
+    ensures { λ t. ⌜ t ≡ l .tokens ⌝ }
+{
+    l.tokens
 }
 
 pub fn role_count(l: Ledger) -> usize

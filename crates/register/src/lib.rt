@@ -18,17 +18,20 @@ pub const LAST_REACH: u8 = 2;
 // The last type that a record can have.
 pub const LAST_KIND: u8 = 7;
 
+// In C's layout, and in this order without padding: it is a part of the library's state (ledger_stored).
+#[repr(C)]
 pub struct Record {
-    pub parent: u8,
     pub author: u16,
     pub origins: u16,
     pub sensitivities: u16,
+    pub labels: u16,
+    pub parent: u8,
     // document 01: type
     pub kind: u8,
-    pub labels: u16,
 }
 
-// The parents of the roles and the records; what stands past the two counts has no meaning.
+// The parents of the roles and the records; what stands past the two counts has no meaning. In C's layout, as Record is.
+#[repr(C)]
 pub struct Register {
     pub roles: [u8; ROLES],
     pub role_count: usize,

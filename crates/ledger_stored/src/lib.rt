@@ -1,0 +1,278 @@
+// The ledger as a caller in another language holds it: numbers alone, so that every bit pattern of its memory is a value, and no
+// padding, so that no byte of it is left to chance. The order of the fields is that of their alignment.
+use active::Active;
+use active::ActiveList;
+use directive::Directive;
+use directive::Subject;
+use emergency::Token;
+use emergency::TokenList;
+use ledger::Ledger;
+use register::Register;
+use sets::record_set::RecordSet;
+ghost use mathlib.Core.Path.{_≡_};
+ghost use mathlib.Core.List.{map};
+ghost use Rattle.ledger_stored.specs.Stored.{byteOf, subjectOf, roleByte, subjectNumber, activeOf, storedActive, tokenOf, storedToken, ledgerOf, storedOf};
+
+// What a stored ledger begins with: a name, and in the two lowest bytes the version of the layout.
+pub const STAMP: u64 = 0x4E6577656C730001;
+
+// How many bytes a stored ledger has.
+pub const SIZE: usize = 2928;
+
+// An active directive with the records that it selects; 48 bytes.
+#[repr(C)]
+pub struct StoredActive {
+    low: u64,
+    high: u64,
+    from: u32,
+    until: u32,
+    number: u16,
+    subject: u16,
+    subject_origins: u16,
+    origins: u16,
+    sensitivities: u16,
+    purposes: u16,
+    // 1 for permit, 0 for deny
+    permit: u8,
+    // 1 for a role, 0 for a person
+    role: u8,
+    record: u8,
+    reach: u8,
+    kinds: u8,
+    unused_1: u8,
+    unused_2: u16,
+    unused_4: u32,
+}
+
+// A token; 12 bytes.
+#[repr(C)]
+pub struct StoredToken {
+    until: u32,
+    number: u16,
+    person: u16,
+    states: u8,
+    unused_1: u8,
+    unused_2: u16,
+}
+
+#[repr(C)]
+pub struct StoredLedger {
+    pub stamp: u64,
+    clock: u32,
+    patient: u16,
+    unused_2: u16,
+    register: Register,
+    active: [StoredActive; 32],
+    active_count: usize,
+    tokens: [StoredToken; 4],
+    token_count: usize,
+}
+
+fn byte_of(b: bool) -> u8
+    ensures { λ r. ⌜ r ≡ byteOf b ⌝ }
+{
+    if b { 1 } else { 0 }
+}
+
+fn subject_of(role: u8, number: u16) -> Subject
+    ensures { λ s. ⌜ s ≡ subjectOf role number ⌝ }
+{
+    if role == 0 {
+        return Subject::Person(number);
+    }
+    Subject::Role(number)
+}
+
+fn role_byte(s: Subject) -> u8
+    ensures { λ r. ⌜ r ≡ roleByte s ⌝ }
+{
+    match s {
+        Subject::Person(_) => 0,
+        Subject::Role(_) => 1,
+    }
+}
+
+fn subject_number(s: Subject) -> u16
+    ensures { λ r. ⌜ r ≡ subjectNumber s ⌝ }
+{
+    match s {
+        Subject::Person(n) => n,
+        Subject::Role(n) => n,
+    }
+}
+
+fn active_of(t: StoredActive) -> Active
+    ensures { λ a. ⌜ a ≡ activeOf t ⌝ }
+{
+    let subject = subject_of(t.role, t.subject);
+    let d = Directive {
+        number: t.number,
+        permit: t.permit != 0,
+        subject: subject,
+        subject_origins: t.subject_origins,
+        record: t.record,
+        reach: t.reach,
+        origins: t.origins,
+        sensitivities: t.sensitivities,
+        kinds: t.kinds,
+        purposes: t.purposes,
+        from: t.from,
+        until: t.until,
+    };
+    let selected = RecordSet {
+        low: t.low,
+        high: t.high,
+    };
+    Active {
+        directive: d,
+        selected: selected,
+    }
+}
+
+fn stored_active(a: Active) -> StoredActive
+    ensures { λ t. ⌜ t ≡ storedActive a ⌝ }
+{
+    let d = a.directive;
+    let selected = a.selected;
+    let s = d.subject;
+    StoredActive {
+        low: selected.low,
+        high: selected.high,
+        from: d.from,
+        until: d.until,
+        number: d.number,
+        subject: subject_number(s),
+        subject_origins: d.subject_origins,
+        origins: d.origins,
+        sensitivities: d.sensitivities,
+        purposes: d.purposes,
+        permit: byte_of(d.permit),
+        role: role_byte(s),
+        record: d.record,
+        reach: d.reach,
+        kinds: d.kinds,
+        unused_1: 0,
+        unused_2: 0,
+        unused_4: 0,
+    }
+}
+
+fn token_of(t: StoredToken) -> Token
+    ensures { λ k. ⌜ k ≡ tokenOf t ⌝ }
+{
+    Token {
+        number: t.number,
+        person: t.person,
+        states: t.states,
+        until: t.until,
+    }
+}
+
+fn stored_token(k: Token) -> StoredToken
+    ensures { λ t. ⌜ t ≡ storedToken k ⌝ }
+{
+    StoredToken {
+        until: k.until,
+        number: k.number,
+        person: k.person,
+        states: k.states,
+        unused_1: 0,
+        unused_2: 0,
+    }
+}
+
+fn actives_of(a: [StoredActive; 32]) -> [Active; 32]
+    ensures { λ r. ⌜ r ≡ map activeOf a ⌝ }
+{
+    let first = a[0];
+    let filler = active_of(first);
+    let mut out = [filler; 32];
+    for i in 0..32usize {
+        let x = a[i];
+        out[i] = active_of(x);
+    }
+    out
+}
+
+fn stored_actives(a: [Active; 32]) -> [StoredActive; 32]
+    ensures { λ r. ⌜ r ≡ map storedActive a ⌝ }
+{
+    let first = a[0];
+    let filler = stored_active(first);
+    let mut out = [filler; 32];
+    for i in 0..32usize {
+        let x = a[i];
+        out[i] = stored_active(x);
+    }
+    out
+}
+
+fn tokens_of(a: [StoredToken; 4]) -> [Token; 4]
+    ensures { λ r. ⌜ r ≡ map tokenOf a ⌝ }
+{
+    let first = a[0];
+    let filler = token_of(first);
+    let mut out = [filler; 4];
+    for i in 0..4usize {
+        let x = a[i];
+        out[i] = token_of(x);
+    }
+    out
+}
+
+fn stored_tokens(a: [Token; 4]) -> [StoredToken; 4]
+    ensures { λ r. ⌜ r ≡ map storedToken a ⌝ }
+{
+    let first = a[0];
+    let filler = stored_token(first);
+    let mut out = [filler; 4];
+    for i in 0..4usize {
+        let x = a[i];
+        out[i] = stored_token(x);
+    }
+    out
+}
+
+// The ledger that a stored one stands for, whatever its numbers are.
+pub fn ledger_of(t: StoredLedger) -> Ledger
+    ensures { λ l. ⌜ l ≡ ledgerOf t ⌝ }
+{
+    let stored_active = t.active;
+    let entries = actives_of(stored_active);
+    let active = ActiveList {
+        entries: entries,
+        count: t.active_count,
+    };
+    let stored_tokens = t.tokens;
+    let held = tokens_of(stored_tokens);
+    let tokens = TokenList {
+        tokens: held,
+        count: t.token_count,
+    };
+    let register = t.register;
+    ledger::from_parts(t.patient, t.clock, register, active, tokens)
+}
+
+// The ledger, stored.
+pub fn stored_of(l: Ledger) -> StoredLedger
+    ensures { λ t. ⌜ t ≡ storedOf l ⌝ }
+{
+    let list = ledger::views::active_of(l);
+    let entries = list.entries;
+    let active = stored_actives(entries);
+    let held = ledger::views::tokens_of(l);
+    let tokens = held.tokens;
+    let kept = stored_tokens(tokens);
+    let register = ledger::views::register_of(l);
+    StoredLedger {
+        stamp: STAMP,
+        clock: ledger::views::clock(l),
+        patient: ledger::views::patient(l),
+        unused_2: 0,
+        register: register,
+        active: active,
+        active_count: list.count,
+        tokens: kept,
+        token_count: held.count,
+    }
+}

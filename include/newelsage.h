@@ -1,0 +1,129 @@
+/* The consent gateway as a library: one ledger serves one patient.
+ *
+ * The caller owns each ledger's memory: newelsage_size() bytes, aligned as a uint64_t. Nothing is allocated and nothing is global, so
+ * any number of ledgers may be used from any number of threads, each ledger by one thread at a time (several may ask at once, as
+ * newelsage_ask changes no byte of the ledger).
+ *
+ * A ledger is made by newelsage_empty or newelsage_read, and changed by newelsage_read and newelsage_call alone. Its bytes may be copied,
+ * saved and brought back: they hold all of it, the emergency tokens too, which a card does not. There are no pointers in them and no
+ * bytes without meaning: equal ledgers that were made by the same calls have equal bytes. Bytes that the library did not make are
+ * refused (NEWELSAGE_NOT_A_LEDGER) unless they begin as a ledger does; then some answer is given. No byte beyond those that are
+ * lent is read or written, whatever they hold.
+ *
+ * Every function answers a status, 0 where the call was accepted. No pointer may be NULL, also where its length is 0. What a function
+ * writes (ledger, lent, answer) may not overlap anything else that it is handed.
+ *
+ * docs/LIBRARY.md has the guide, docs/FORMATS.md the bytes of a card, of a call's value and of a draft. */
+#ifndef NEWELSAGE_H
+#define NEWELSAGE_H
+
+#include <stddef.h>
+#include <stdint.h>
+
+#ifdef __cplusplus
+extern "C" {
+#endif
+
+/* What this header was written for; compare it with what the library says of itself. */
+#define NEWELSAGE_VERSION 1u
+#define NEWELSAGE_SIZE 2928u
+
+/* The memory of a ledger. Its fields are the library's own. */
+typedef struct newelsage_ledger newelsage_ledger;
+
+/* Memory for a ledger where a malloc is not wanted: a newelsage_memory m is handed on as newelsage_in(&m), sizeof m. */
+typedef union newelsage_memory {
+    uint64_t words[NEWELSAGE_SIZE / 8];
+    uint8_t bytes[NEWELSAGE_SIZE];
+} newelsage_memory;
+
+static inline newelsage_ledger *newelsage_in(newelsage_memory *memory) {
+    return (newelsage_ledger *)(void *)memory;
+}
+
+/* The status of a call: 0, or the number of the first question of document 01 or 02 that the input misses, or why the call was not made. */
+typedef enum newelsage_status {
+    NEWELSAGE_ACCEPTED = 0,
+    /* a card */
+    NEWELSAGE_FIELD_NOT_WHOLE = 1,
+    NEWELSAGE_FIELD_MISPLACED = 2, /* or it has another length */
+    NEWELSAGE_TOO_MANY_RECORDS = 3,
+    NEWELSAGE_OUT_OF_RANGE = 4, /* edition, roles or record */
+    NEWELSAGE_INCOMPLETE = 5,
+    /* a draft; 7 to 13 also of a card's directive */
+    NEWELSAGE_DRAFT_LENGTH = 6,
+    NEWELSAGE_DRAFT_OUT_OF_RANGE = 7,
+    NEWELSAGE_NOT_IN_REGISTER = 8,
+    NEWELSAGE_NO_MINUTES = 9,
+    NEWELSAGE_NUMBER_TAKEN = 10,
+    NEWELSAGE_LIST_FULL = 11,
+    NEWELSAGE_BREAKS_BASELINE = 12,
+    NEWELSAGE_CONFLICT = 13, /* values[0]: the lowest number of an active directive that it conflicts with */
+    NEWELSAGE_REDUNDANT = 14,
+    /* the other calls */
+    NEWELSAGE_NOT_ACTIVE = 15,          /* revoke */
+    NEWELSAGE_BEFORE_CLOCK = 16,        /* advance */
+    NEWELSAGE_REQUEST_OUT_OF_RANGE = 17, /* decide and preview */
+    NEWELSAGE_NO_STATE = 18,            /* issue */
+    NEWELSAGE_WRONG_MINUTES = 19,       /* issue */
+    NEWELSAGE_TOKEN_TAKEN = 20,         /* issue */
+    NEWELSAGE_TOKENS_FULL = 21,         /* issue */
+    NEWELSAGE_NO_TOKEN = 22,            /* brief and token */
+    NEWELSAGE_NO_RECORD = 23,           /* write */
+    NEWELSAGE_BUFFER_TOO_SHORT = 24,    /* write */
+    /* the call was not made, and nothing has changed but the answer */
+    NEWELSAGE_MALFORMED = 256,    /* the function has no such tag, or the value has not the tag's length */
+    NEWELSAGE_STATE_TOO_SHORT = 257, /* size is below newelsage_size(): no byte of the ledger was touched */
+    NEWELSAGE_NOT_A_LEDGER = 258  /* the memory does not begin as a ledger of this version does */
+} newelsage_status;
+
+/* The tags: those of the replay format, and below 0x10 the library's own. */
+typedef enum newelsage_tag {
+    /* newelsage_ask: what the ledger holds, and one of its tokens */
+    NEWELSAGE_COUNTS = 0x00, /* value: none. values: patient, clock, records, active directives, tokens */
+    NEWELSAGE_TOKEN = 0x01,  /* value: place 1, from 0 in order of issue. values: number, person, state set, until */
+    /* newelsage_call */
+    NEWELSAGE_COMMIT = 0x10,  /* value: a draft, of any length */
+    NEWELSAGE_REVOKE = 0x11,  /* value: number 2 */
+    NEWELSAGE_ADVANCE = 0x12, /* value: minute 4. values: directives dropped, tokens dropped */
+    NEWELSAGE_ISSUE = 0x13,   /* value: number 2, person 2, state set 1, length 4 */
+    /* newelsage_ask */
+    NEWELSAGE_DECIDE = 0x14, /* value: person 2, role 2, origin 1, record 1, purpose 1. values: effect (1 permit, 0 deny), basis,
+                                and for basis 3 the directive's number */
+    NEWELSAGE_BRIEF = 0x15,  /* value: number 2, person 2. values: the two words, the count */
+    NEWELSAGE_WRITE = 0x16,  /* value: how much of the buffer is lent 2. values: the card's length; the card stands in the buffer */
+    NEWELSAGE_PREVIEW = 0x17 /* value: person 2, role 2, origin 1, purpose 1, then a draft. values: the two words, the count */
+} newelsage_tag;
+
+/* An answer: the status, and the first `count` of `values`; what stands behind them has no meaning. */
+typedef struct newelsage_answer {
+    uint64_t status;
+    uint64_t count;
+    uint64_t values[6];
+} newelsage_answer;
+
+/* How many bytes a ledger has, and the version of these bytes: saved ledgers of another version are refused. */
+size_t newelsage_size(void);
+uint64_t newelsage_version(void);
+
+/* Makes the empty ledger: patient 0, clock 0 and nothing else. */
+uint64_t newelsage_empty(newelsage_ledger *ledger, size_t size);
+
+/* Reads a card into the ledger, whatever stood there. values: records, active directives; where the card is refused, the ledger is the
+ * empty one, and with NEWELSAGE_CONFLICT values[0] is the number that it names. */
+uint64_t newelsage_read(newelsage_ledger *ledger, size_t size, const uint8_t *card, size_t card_length, newelsage_answer *answer);
+
+/* A call that can change the ledger. Where it is refused, the ledger is as it was. */
+uint64_t newelsage_call(newelsage_ledger *ledger, size_t size, uint8_t tag, const uint8_t *value, size_t value_length,
+                        newelsage_answer *answer);
+
+/* A call that changes nothing of the ledger. `lent` is written by NEWELSAGE_WRITE alone, and only where that is accepted; bytes after the
+ * card keep their content. */
+uint64_t newelsage_ask(const newelsage_ledger *ledger, size_t size, uint8_t tag, const uint8_t *value, size_t value_length,
+                       uint8_t *lent, size_t lent_length, newelsage_answer *answer);
+
+#ifdef __cplusplus
+}
+#endif
+
+#endif
