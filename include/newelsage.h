@@ -5,10 +5,10 @@
  * newelsage_ask changes no byte of the ledger).
  *
  * A ledger is made by newelsage_empty or newelsage_read, and changed by newelsage_read and newelsage_call alone. Its bytes may be copied,
- * saved and brought back: they hold all of it, the emergency tokens too, which a card does not. There are no pointers in them and no
- * bytes without meaning: equal ledgers that were made by the same calls have equal bytes. Bytes that the library did not make are
- * refused (NEWELSAGE_NOT_A_LEDGER) unless they begin as a ledger does; then some answer is given. No byte beyond those that are
- * lent is read or written, whatever they hold.
+ * saved and brought back: they hold all of it, the emergency tokens too, which a card does not. There are no pointers in them, and every
+ * byte is determined: ledgers that were made by the same calls have equal bytes. Bytes that the library did not make are refused
+ * (NEWELSAGE_NOT_A_LEDGER) unless they begin as a ledger does; then some answer is given, and a call may change them even where it is
+ * refused. No byte beyond those that are lent is read or written, whatever they hold.
  *
  * Every function answers a status, 0 where the call was accepted. No pointer may be NULL, also where its length is 0. What a function
  * writes (ledger, lent, answer) may not overlap anything else that it is handed.
@@ -71,7 +71,7 @@ typedef enum newelsage_status {
     NEWELSAGE_NO_TOKEN = 22,            /* brief and token */
     NEWELSAGE_NO_RECORD = 23,           /* write */
     NEWELSAGE_BUFFER_TOO_SHORT = 24,    /* write */
-    /* the call was not made, and nothing has changed but the answer */
+    /* the call was not made: with the last two no byte has changed but the answer's, with the first none of a ledger that the library made */
     NEWELSAGE_MALFORMED = 256,    /* the function has no such tag, or the value has not the tag's length */
     NEWELSAGE_STATE_TOO_SHORT = 257, /* size is below newelsage_size(): no byte of the ledger was touched */
     NEWELSAGE_NOT_A_LEDGER = 258  /* the memory does not begin as a ledger of this version does */

@@ -11,6 +11,10 @@ pub const ROLES: u8 = 0x02;
 pub const RECORD: u8 = 0x03;
 pub const DIRECTIVE: u8 = 0x04;
 
+/// The length of the value of a head field, and of a record field.
+pub const HEAD_LENGTH: usize = 7;
+pub const RECORD_LENGTH: usize = 10;
+
 #[derive(Clone, Copy, Debug, PartialEq, Eq)]
 pub enum Edition {
     One,
@@ -98,6 +102,19 @@ pub fn read(card: &[u8]) -> Result<Ledger, Refusal> {
 }
 
 impl Stage {
+    /// How many fields have been read.
+    pub fn fields(&self) -> usize {
+        match self {
+            Stage::Start => 0,
+            Stage::Head(_) => 1,
+            Stage::Register { ledger, .. } => {
+                let records = ledger.register().records().len();
+                let directives = ledger.active().len();
+                records.saturating_add(directives).saturating_add(2)
+            }
+        }
+    }
+
     /// "Were head, roles and a record read?"
     fn is_complete(&self) -> bool {
         match self {
@@ -135,7 +152,7 @@ impl Stage {
 /// "0x01, first, once: edition (1 or 2), patient 2, minute 4 (sets the
 /// clock)."
 fn read_head(value: &[u8]) -> Result<Head, Refusal> {
-    let head = <[u8; 7]>::try_from(value).map_err(|_| Refusal::FieldPlaceOrLength)?;
+    let head = <[u8; HEAD_LENGTH]>::try_from(value).map_err(|_| Refusal::FieldPlaceOrLength)?;
     let [edition, p1, p0, m3, m2, m1, m0] = head;
     let edition = match edition {
         1 => Edition::One,
@@ -160,7 +177,7 @@ fn read_roles(value: &[u8]) -> Result<Register, Refusal> {
 
 /// "0x03, one a record, in order, after 0x02 and before any 0x04."
 fn read_record(register: &mut Register, value: &[u8]) -> Result<(), Refusal> {
-    let bytes = <&[u8; 10]>::try_from(value).map_err(|_| Refusal::FieldPlaceOrLength)?;
+    let bytes = <&[u8; RECORD_LENGTH]>::try_from(value).map_err(|_| Refusal::FieldPlaceOrLength)?;
     if register.records().len() >= MAX_RECORDS {
         return Err(Refusal::TooManyRecords);
     }

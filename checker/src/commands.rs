@@ -16,6 +16,7 @@ use checker::compare::{answers, Program, Programs, Session, Settings};
 use checker::conformance::write_cases;
 use checker::counts::{Asked, Counts};
 use checker::explain::Explanations;
+use checker::facts::write_facts;
 use checker::files::{self, Stream};
 use checker::generate::inputs;
 use checker::replay::Replay;
@@ -130,6 +131,17 @@ if the replay is malformed.",
         operands: &["REPLAY"],
         choices: &[],
         run: run_explain,
+    },
+    Command {
+        name: "facts",
+        usage: "REPLAY",
+        summary: "tell a screen why a card or a draft is refused, as JSON",
+        help: "Prints one line of JSON: where and why the card is refused, the line of each call,
+and why a draft is refused by question 12, 13 or 14. README.md describes it. REPLAY
+is a file, or - for standard input. The status is 1 if the replay is malformed.",
+        operands: &["REPLAY"],
+        choices: &[],
+        run: run_facts,
     },
     Command {
         name: "assemble",
@@ -310,6 +322,11 @@ fn run_explain(arguments: &Arguments, output: &mut Output) -> Result<ExitCode, F
         malformed = explained.line == Answer::Malformed.to_string();
     }
     Ok(found(malformed))
+}
+
+fn run_facts(arguments: &Arguments, output: &mut Output) -> Result<ExitCode, Failure> {
+    let input = files::read(arguments.operand(0))?;
+    Ok(found(write_facts(&input, output)?))
 }
 
 fn run_assemble(arguments: &Arguments, output: &mut Output) -> Result<ExitCode, Failure> {

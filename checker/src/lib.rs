@@ -60,11 +60,13 @@ pub mod conformance;
 pub mod bench;
 
 // Words instead of numbers: a card shown, the lines of a card or a replay
-// explained.
+// explained, and the facts behind refusals for a screen.
 
 pub mod show;
 
 pub mod explain;
+
+pub mod facts;
 
 pub mod reason;
 
@@ -85,6 +87,8 @@ pub mod files;
 pub mod bytes;
 
 pub mod frequencies;
+
+pub mod json;
 
 pub mod layout;
 

@@ -1,6 +1,6 @@
-//! Witnesses of a refused draft: for 12 and 13 a request, for 14 the
-//! directives that cover the draft. The drafts here have passed the questions
-//! before.
+//! Witnesses of a refused draft: for 12 its records and a request, for 13 a
+//! request, for 14 the directives that cover the draft. The drafts here have
+//! passed the questions before.
 
 use crate::directive::{Directive, Effect, Subject};
 use crate::ledger::Ledger;
@@ -71,21 +71,34 @@ fn lowest_bit(set: u16) -> Option<u8> {
     bit.filter(|_| set != 0)
 }
 
+/// For 12: the records on which this deny breaks the baseline. If it names the
+/// patient, all that it selects; otherwise those of them that the person wrote.
+pub fn baseline_records(ledger: &Ledger, draft: &Directive) -> Vec<u8> {
+    let register = ledger.register();
+    let (Effect::Deny, Subject::Person(person)) = (draft.effect, draft.subject) else {
+        return Vec::new();
+    };
+    register
+        .numbered_records()
+        .filter(|(number, record)| {
+            (person == ledger.patient() || person == record.author)
+                && draft.selects(register, *number)
+        })
+        .map(|(number, _)| number)
+        .collect()
+}
+
 /// For 12: a request of the patient, or of an author on their own record, that
 /// this deny matches.
 pub fn baseline_request(ledger: &Ledger, draft: &Directive) -> Option<Request> {
-    let register = ledger.register();
-    let (Effect::Deny, Subject::Person(person)) = (draft.effect, draft.subject) else {
+    let Subject::Person(person) = draft.subject else {
         return None;
     };
-    let (record, _) = register.numbered_records().find(|(number, record)| {
-        (person == ledger.patient() || person == record.author) && draft.selects(register, *number)
-    })?;
     Some(Request {
         person,
         role: 0,
         origin: lowest_bit(draft.subject_origins)?,
-        record,
+        record: *baseline_records(ledger, draft).first()?,
         purpose: lowest_bit(draft.purposes)?,
         minute: draft.first_minute(ledger.clock())?,
     })

@@ -14,12 +14,13 @@ use checker::replay::encode;
 use crate::runs::{directory, files, path_text, run, text, CHECKER};
 use crate::support::sample;
 
-const COMMANDS: [&str; 12] = [
+const COMMANDS: [&str; 13] = [
     "cardcheck",
     "replay",
     "access",
     "show",
     "explain",
+    "facts",
     "assemble",
     "disassemble",
     "draft",
@@ -99,6 +100,7 @@ fn wrong_arguments_are_named() {
         ("bench", "DIR"),
         ("show", "CARD"),
         ("explain", "REPLAY"),
+        ("facts", "REPLAY"),
         ("assemble", "TEXT"),
         ("disassemble", "FILE"),
     ] {
@@ -250,12 +252,13 @@ fn assert_failed(output: &Output, start: &str) {
 
 const ACCESS: [&str; 5] = ["access", "1", "0", "0", "0"];
 
-const READING: [&[&str]; 7] = [
+const READING: [&[&str]; 8] = [
     &["cardcheck"],
     &ACCESS,
     &["replay"],
     &["show", "-"],
     &["explain", "-"],
+    &["facts", "-"],
     &["assemble", "-"],
     &["disassemble", "--card", "-"],
 ];
@@ -324,6 +327,7 @@ fn a_full_device_is_no_answer() {
         &["generate", "--cards", "200", "--replays", "200"],
         &["show", replay],
         &["explain", replay],
+        &["facts", replay],
         &["disassemble", replay],
         &[
             "compare",
@@ -379,7 +383,7 @@ fn a_closed_pipe_is_no_answer() {
 fn files_that_cannot_be_used_are_named() {
     let out = directory("no-files");
     let missing = out.join("missing.card");
-    for command in ["show", "explain", "assemble", "disassemble"] {
+    for command in ["show", "explain", "facts", "assemble", "disassemble"] {
         let output = run(&[command, path_text(&missing)], &[]);
         let start = format!("checker {command}: {}: No such file", missing.display());
         assert_failed(&output, &start);

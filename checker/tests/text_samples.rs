@@ -140,7 +140,7 @@ fn every_case_has_a_file_and_every_file_a_case() {
 
 #[test]
 fn the_texts_give_the_stored_bytes() {
-    for name in ["sample.card", "sample.replay", "demo.card"] {
+    for name in ["sample.card", "sample.replay", "demo.card", "visit.card"] {
         let sample = is_answered_as_expected(&format!("{name}.txt"));
         assert_eq!(sample.bytes, stored(name), "{name}");
     }

@@ -4,6 +4,7 @@
 use std::io::{self, Write};
 
 use crate::bytes::hex;
+use crate::json;
 use crate::replay::Replay;
 
 use scenario::Scenario;
@@ -150,18 +151,18 @@ impl Case {
             Source::Decisions(numbers) => (numbers.split(' ').collect(), ""),
             Source::Says(words) => (Vec::new(), words),
         };
+        let decisions = decisions.into_iter().map(json::string);
         let answers = self.answers();
-        let members = [
-            ("id", json_string(self.id)),
-            ("topic", json_string(self.topic)),
-            ("reading", json_string(self.reading)),
-            ("decisions", json_array(decisions)),
-            ("sentence", json_string(sentence)),
-            ("input", json_string(&hex(&self.scenario.input))),
-            ("expected", json_array(answers.iter().map(String::as_str))),
-        ];
-        let members = members.map(|(key, value)| format!("{}: {value}", json_string(key)));
-        format!("{{{}}}", members.join(", "))
+        let expected = answers.iter().map(|line| json::string(line));
+        json::object([
+            ("id", json::string(self.id)),
+            ("topic", json::string(self.topic)),
+            ("reading", json::string(self.reading)),
+            ("decisions", json::array(decisions)),
+            ("sentence", json::string(sentence)),
+            ("input", json::string(&hex(&self.scenario.input))),
+            ("expected", json::array(expected)),
+        ])
     }
 }
 
@@ -176,23 +177,4 @@ pub fn write_cases(output: &mut impl Write) -> io::Result<()> {
         writeln!(output, "{}", case.to_json())?;
     }
     Ok(())
-}
-
-fn json_array<'a>(texts: impl IntoIterator<Item = &'a str>) -> String {
-    let texts: Vec<String> = texts.into_iter().map(json_string).collect();
-    format!("[{}]", texts.join(", "))
-}
-
-/// A JSON string of printable ASCII; other characters as escapes.
-fn json_string(text: &str) -> String {
-    let mut json = String::from("\"");
-    for unit in text.encode_utf16() {
-        match u8::try_from(unit) {
-            Ok(byte @ (b'"' | b'\\')) => json.extend(['\\', char::from(byte)]),
-            Ok(byte @ b' '..=b'~') => json.push(char::from(byte)),
-            _ => json.push_str(&format!("\\u{unit:04x}")),
-        }
-    }
-    json.push('"');
-    json
 }

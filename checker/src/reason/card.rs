@@ -2,14 +2,13 @@
 
 use super::draft;
 use crate::bytes::Bytes;
-use crate::card::{directive_fields, Stage, Stop, DIRECTIVE, HEAD, RECORD, ROLES};
+use crate::card::{
+    directive_fields, Stage, Stop, DIRECTIVE, HEAD, HEAD_LENGTH, RECORD, RECORD_LENGTH, ROLES,
+};
 use crate::describe::{counted, hex_byte, Words};
 use crate::ledger::Ledger;
 use crate::refusal::Refusal;
 use crate::register::{Record, MAX_RECORDS, MAX_ROLES, MAX_TYPE};
-
-const HEAD_LENGTH: usize = 7;
-const RECORD_LENGTH: usize = 10;
 
 /// Where the reading stopped: the field by its tag and number, and its offset.
 pub fn place(card: &[u8], stage: &Stage, stop: &Stop) -> String {
@@ -37,10 +36,7 @@ fn field_name(stage: &Stage, tag: u8) -> String {
         ROLES => ("roles field", roles),
         RECORD => ("record field", records),
         DIRECTIVE => ("directive field", directives),
-        _ => {
-            let all = [heads, roles, records, directives];
-            ("field", all.into_iter().fold(0, usize::saturating_add))
-        }
+        _ => ("field", stage.fields()),
     };
     let number = before.saturating_add(1);
     format!("{name} {number} (tag {})", hex_byte(tag))

@@ -28,9 +28,9 @@ byteOf b = cond b 1 0
 unfoldable pub subjectOf : ℕ → ℕ → Subject
 subjectOf role number = cond (eqb role 0) (Person number) (Role number)
 
-abbrev pub roleByte : Subject → ℕ
-roleByte (Person n) = 0
-roleByte (Role n) = 1
+abbrev pub roleNumber : Subject → ℕ
+roleNumber (Person n) = 0
+roleNumber (Role n) = 1
 
 abbrev pub subjectNumber : Subject → ℕ
 subjectNumber (Person n) = n
@@ -70,13 +70,13 @@ storedActive a =
       sensitivities = a .directive .sensitivities;
       purposes = a .directive .purposes;
       permit = byteOf (a .directive .permit);
-      role = roleByte (a .directive .subject);
+      role = roleNumber (a .directive .subject);
       «record» = a .directive .«record»;
       reach = a .directive .reach;
       kinds = a .directive .kinds;
       «unused_1» = 0;
       «unused_2» = 0;
-      «unused_4» = 0;
+      «unused_3» = 0;
     }
 
 unfoldable pub tokenOf : StoredToken → Token

@@ -1,5 +1,5 @@
 // The ledger as a caller in another language holds it: numbers alone, so that every bit pattern of its memory is a value, and no
-// padding, so that no byte of it is left to chance. The order of the fields is that of their alignment.
+// padding, so that no byte of it is left to chance.
 use active::Active;
 use active::ActiveList;
 use directive::Directive;
@@ -11,7 +11,7 @@ use register::Register;
 use sets::record_set::RecordSet;
 ghost use mathlib.Core.Path.{_≡_};
 ghost use mathlib.Core.List.{map};
-ghost use Rattle.ledger_stored.specs.Stored.{byteOf, subjectOf, roleByte, subjectNumber, activeOf, storedActive, tokenOf, storedToken, ledgerOf, storedOf};
+ghost use Rattle.ledger_stored.specs.Stored.{byteOf, subjectOf, roleNumber, subjectNumber, activeOf, storedActive, tokenOf, storedToken, ledgerOf, storedOf};
 
 // What a stored ledger begins with: a name, and in the two lowest bytes the version of the layout.
 pub const STAMP: u64 = 0x4E6577656C730001;
@@ -19,29 +19,29 @@ pub const STAMP: u64 = 0x4E6577656C730001;
 // How many bytes a stored ledger has.
 pub const SIZE: usize = 2928;
 
-// An active directive with the records that it selects; 48 bytes.
+// An active directive with the records that it selects; 48 bytes, in the order of `Active`, so that most of them are copied in a few moves.
 #[repr(C)]
 pub struct StoredActive {
-    low: u64,
-    high: u64,
-    from: u32,
-    until: u32,
     number: u16,
-    subject: u16,
-    subject_origins: u16,
-    origins: u16,
-    sensitivities: u16,
-    purposes: u16,
     // 1 for permit, 0 for deny
     permit: u8,
+    unused_1: u8,
     // 1 for a role, 0 for a person
-    role: u8,
+    role: u16,
+    subject: u16,
+    subject_origins: u16,
     record: u8,
     reach: u8,
+    origins: u16,
+    sensitivities: u16,
     kinds: u8,
-    unused_1: u8,
-    unused_2: u16,
-    unused_4: u32,
+    unused_2: u8,
+    purposes: u16,
+    from: u32,
+    until: u32,
+    unused_3: u32,
+    low: u64,
+    high: u64,
 }
 
 // A token; 12 bytes.
@@ -74,7 +74,7 @@ fn byte_of(b: bool) -> u8
     if b { 1 } else { 0 }
 }
 
-fn subject_of(role: u8, number: u16) -> Subject
+fn subject_of(role: u16, number: u16) -> Subject
     ensures { λ s. ⌜ s ≡ subjectOf role number ⌝ }
 {
     if role == 0 {
@@ -83,8 +83,8 @@ fn subject_of(role: u8, number: u16) -> Subject
     Subject::Role(number)
 }
 
-fn role_byte(s: Subject) -> u8
-    ensures { λ r. ⌜ r ≡ roleByte s ⌝ }
+fn role_number(s: Subject) -> u16
+    ensures { λ r. ⌜ r ≡ roleNumber s ⌝ }
 {
     match s {
         Subject::Person(_) => 0,
@@ -136,24 +136,24 @@ fn stored_active(a: Active) -> StoredActive
     let selected = a.selected;
     let s = d.subject;
     StoredActive {
-        low: selected.low,
-        high: selected.high,
-        from: d.from,
-        until: d.until,
         number: d.number,
+        permit: byte_of(d.permit),
+        unused_1: 0,
+        role: role_number(s),
         subject: subject_number(s),
         subject_origins: d.subject_origins,
-        origins: d.origins,
-        sensitivities: d.sensitivities,
-        purposes: d.purposes,
-        permit: byte_of(d.permit),
-        role: role_byte(s),
         record: d.record,
         reach: d.reach,
+        origins: d.origins,
+        sensitivities: d.sensitivities,
         kinds: d.kinds,
-        unused_1: 0,
         unused_2: 0,
-        unused_4: 0,
+        purposes: d.purposes,
+        from: d.from,
+        until: d.until,
+        unused_3: 0,
+        low: selected.low,
+        high: selected.high,
     }
 }
 

@@ -16,10 +16,11 @@ use Rattle.card.specs.Reading.{reading}
 use Rattle.replay_entries.specs.Entries.{Entry, callEntry, saidTo, afterEntry, changes}
 use Rattle.newelsage.specs.Answers.{tooShortStatus, notALedgerStatus, told, Answered, toldSaid, toldRead, Question, questionOf, toldTo, bufferTo}
 
--- newelsage_empty: the empty ledger.
+-- newelsage_empty: the empty ledger, which keeps the invariant.
 pub record Empties (t : StoredLedger) (size status : ℕ) (after : StoredLedger) : Type 0 where
   pub short : size < theSize → (status ≡ tooShortStatus) × (after ≡ t)
   pub whole : theSize ≤ size → (status ≡ 0) × (after ≡ storedOf emptyLedger)
+  pub invariant : Invariant emptyLedger
 
 -- A card is read, whatever stood in the memory: what is told and the ledger are the definition's; a refused card leaves the empty ledger.
 pub record ReadIn (card : List ℕ) (status : ℕ) (after : StoredLedger) (answer : List ℕ) : Type 0 where

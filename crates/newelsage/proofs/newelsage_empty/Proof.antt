@@ -46,6 +46,7 @@ use Rattle.ledger_stored.specs.declared.StoredLedger.{StoredLedger}
 use Rattle.ledger_stored.proofs.StoredLedger as T
 use Rattle.ledger_stored.proofs.StoredLedger.Laws as T′
 use Rattle.ledger.specs.State.{emptyLedger}
+use Rattle.ledger.proofs.Beginning.{empty-sound}
 use Rattle.ledger_stored.specs.Stored.{theSize, storedOf}
 use Rattle.newelsage.specs.Answers.{tooShortStatus}
 use Rattle.newelsage.specs.Library.{Empties}
@@ -103,10 +104,10 @@ module _ {M : Type 1} (𝓤 : URA M) (H : Heap 𝓤) (A : Atoms 𝓤) (W : Given
   goes-made = qed W (‵ ftrue ∷ []) ∵ nothing ! $ join ! $ frame ! $ done !
 
   short : size < theSize → Empties h size tooShortStatus h
-  short less = record { short = λ _. (refl, refl); whole = λ fits. absurd (lt-irrefl size (lt-of-lt-of-le less fits)) }
+  short less = record { short = λ _. (refl, refl); whole = λ fits. absurd (lt-irrefl size (lt-of-lt-of-le less fits)); invariant = empty-sound }
 
   whole : (t : StoredLedger) → t ≡ storedOf emptyLedger → theSize ≤ size → Empties h size 0 t
-  whole t e fits = record { short = λ less. absurd (lt-irrefl size (lt-of-lt-of-le less fits)); whole = λ _. (refl, e) }
+  whole t e fits = record { short = λ less. absurd (lt-irrefl size (lt-of-lt-of-le less fits)); whole = λ _. (refl, e); invariant = empty-sound }
 
   module _ (C : Calls 𝓤 H) (Λ : Loops 𝓤 H) (fm : FmC 𝓤 H (W .laws) C) (known : Triple 𝓤 (C #newelsage·calls·empty) (Made 𝓤 H A at-mem run)) where
     walk : size < 2 ^ 64 → ent 𝓤 (onEntry 𝓤 H A it.signature (κ, tt) (q, tt) x at) (WpFn 𝓤 H C Λ code.function (vptr b o ∷ vint w64 size ∷ []) Post)
