@@ -87,7 +87,7 @@ def setUpModule():
     global work, browser, server
     shared = contextlib.ExitStack()
     unittest.addModuleCleanup(shared.close)
-    work = Path(shared.enter_context(tempfile.TemporaryDirectory()))
+    work = Path(shared.enter_context(tempfile.TemporaryDirectory(ignore_cleanup_errors=True)))
     card = file_with("sample.card", SAMPLE)
     file_with("sample.labels.json", LABELS.read_bytes())
     SCREENSHOTS.mkdir(parents=True, exist_ok=True)
@@ -124,13 +124,13 @@ class OnThePage(unittest.TestCase):
         browser.wait(f"an answer on the page {view or ''}", lambda: self.is_ready(view))
 
     def is_ready(self, view):
-        ready, shown, busy = browser.script(
-            "const { ready, view } = document.body.dataset;"
-            "return [ready === 'true', view, document.getElementById('main').getAttribute('aria-busy')]"
-        )
-        if shown == "error" and busy == "false":
+        ready, shown = browser.script("const { ready, view } = document.body.dataset; return [ready === 'true', view]")
+        if shown == "error" and not self.is_busy():
             self.fail(f"the page shows an error: {self.text('#error-words')}")
         return ready and view in (None, shown)
+
+    def is_busy(self):
+        return browser.find("#main").attribute("aria-busy") == "true"
 
     # doing
 
@@ -295,9 +295,21 @@ class OnThePage(unittest.TestCase):
         self.assertFalse(browser.has(".cell, .ans, [data-effect]"))
 
     def resize(self, width, height):
+        """Makes the page this large, and waits until it has noticed."""
         browser.resize(width, height)
         browser.script("return new Promise(done => requestAnimationFrame(() => requestAnimationFrame(done)))")
-        self.ready()
+        browser.wait("an answer", lambda: not self.is_busy())
+
+    def check_widths(self, state):
+        """Nothing scrolls sideways."""
+        for width in WIDTHS:
+            self.resize(width, 900)
+            widths = browser.script(
+                "const { clientWidth, scrollWidth } = document.documentElement;"
+                "scrollTo(500, 0); return [clientWidth, Math.max(scrollWidth, document.body.scrollWidth), scrollX]"
+            )
+            self.assertEqual(widths, [width, width, 0], f"{state} at {width}")
+        self.resize(*LAPTOP)
 
     def screenshot(self, name, size=LAPTOP):
         self.resize(*size)
@@ -653,6 +665,22 @@ class Signing(OnThePage):
         written = self.answers_of([CHECKER, "replay"], replay + bytes.fromhex("160002ffff"))[-1]
         self.assertEqual(written.split()[-1], self.saved("#save-card", "sample.card").hex())
 
+    def test_what_has_no_preview_yet_is_not_signed(self):
+        self.write(**FORM_A)
+        words = browser.script(
+            """const minute = document.getElementById('d-until-minute');
+            minute.value = '1500';
+            minute.dispatchEvent(new Event('input'));
+            document.getElementById('sign').click();
+            return document.getElementById('sign-wait').innerText"""
+        )
+        self.assertEqual(words, "The draft is still being looked at. Wait for the preview, then sign.")
+        self.ready("write")
+        self.assertIn("until 1:00am tomorrow, Tue 17 Nov", self.text("#inwords"))
+        self.sign()
+        self.assertEqual(len(self.history()), 2)
+        self.assertIn("Minutes 1000 to 1500", self.text("#directives .dir"))
+
     def saved(self, button, name):
         """The bytes of the file that a click on the button downloads."""
         path = browser.downloads / name
@@ -782,6 +810,7 @@ class Failures(OnThePage):
             self.sign_a()
         self.choose("ask-p", "Research")
         self.error_is_shown()
+        self.check_widths("error")
         self.click("#retry")
         self.error_is_shown()
         for message in browser.log():
@@ -795,7 +824,7 @@ class Failures(OnThePage):
             self.assertEqual(self.says("r1", 1), BY_A)
 
     def error_is_shown(self):
-        browser.wait("the error", lambda: browser.script("return document.getElementById('main').getAttribute('aria-busy')") == "false")
+        browser.wait("the error", lambda: not self.is_busy())
         self.assertIn("The gateway did not answer", self.text("#gateway-error"))
         self.assertEqual(self.text("#error-words"), "The gateway cannot be reached. It may have been stopped.")
         self.assertEqual(self.texts("#tabs-nav"), [])
@@ -979,14 +1008,7 @@ class Looks(OnThePage):
 
     def test_nothing_scrolls_sideways(self):
         for state in self.states():
-            for width in WIDTHS:
-                self.resize(width, 900)
-                widths = browser.script(
-                    "const { clientWidth, scrollWidth } = document.documentElement;"
-                    "scrollTo(500, 0); return [clientWidth, Math.max(scrollWidth, document.body.scrollWidth), scrollX]"
-                )
-                self.assertEqual(widths, [width, width, 0], f"{state} at {width}")
-            self.resize(*LAPTOP)
+            self.check_widths(state)
 
     def test_colours(self):
         for theme, ground in (("light", LIGHT_GROUND), ("dark", DARK_GROUND)):
@@ -1000,10 +1022,10 @@ class Looks(OnThePage):
                     self.screenshot("draft-dark")
 
     def test_colours_as_the_device(self):
+        self.addCleanup(browser.devtools, "Emulation.setEmulatedMedia", features=[])
         for scheme, ground in (("dark", DARK_GROUND), ("light", LIGHT_GROUND)):
             browser.devtools("Emulation.setEmulatedMedia", features=[{"name": "prefers-color-scheme", "value": scheme}])
             self.assertEqual(browser.script("return getComputedStyle(document.body).backgroundColor"), ground)
-        browser.devtools("Emulation.setEmulatedMedia", features=[])
 
     def test_a_phone_shows_one_requester(self):
         self.resize(*PHONE)

@@ -43,10 +43,6 @@ class Failure(Exception):
     """The browser or its driver did not do what was asked."""
 
 
-def is_installed():
-    return shutil.which(BROWSER) is not None and shutil.which(DRIVER) is not None
-
-
 class Driver:
     """chromedriver on a free port."""
 
