@@ -5,13 +5,14 @@
  * newelsage_ask changes no byte of the ledger).
  *
  * A ledger is made by newelsage_empty or newelsage_read, and changed by newelsage_read and newelsage_call alone. Its bytes may be copied,
- * saved and brought back: they hold all of it, the emergency tokens too, which a card does not. There are no pointers in them, and every
+ * saved and restored: they hold all of it, the emergency tokens too, which a card does not. There are no pointers in them, and every
  * byte is determined: ledgers that were made by the same calls have equal bytes. Bytes that the library did not make are refused
  * (NEWELSAGE_NOT_A_LEDGER) unless they begin as a ledger does; then some answer is given, and a call may change them even where it is
  * refused. No byte beyond those that are lent is read or written, whatever they hold.
  *
- * Every function answers a status, 0 where the call was accepted. No pointer may be NULL, also where its length is 0. What a function
- * writes (ledger, lent, answer) may not overlap anything else that it is handed.
+ * newelsage_empty, newelsage_read, newelsage_call and newelsage_ask return a status, 0 where the call was accepted. No pointer may be NULL, even
+ * if its length is 0 (the data() of an empty C++ vector may be: pass the address of any byte). What a function writes (ledger, lent, answer) may not
+ * overlap anything else that it is given.
  *
  * docs/LIBRARY.md has the guide, docs/FORMATS.md the bytes of a card, of a call's value and of a draft. */
 #ifndef NEWELSAGE_H
@@ -28,6 +29,9 @@ extern "C" {
 #define NEWELSAGE_VERSION 1u
 #define NEWELSAGE_SIZE 2928u
 
+/* No card that the library writes is longer. */
+#define NEWELSAGE_LONGEST_CARD 2589u
+
 /* The memory of a ledger. Its fields are the library's own. */
 typedef struct newelsage_ledger newelsage_ledger;
 
@@ -41,7 +45,8 @@ static inline newelsage_ledger *newelsage_in(newelsage_memory *memory) {
     return (newelsage_ledger *)(void *)memory;
 }
 
-/* The status of a call: 0, or the number of the first question of document 01 or 02 that the input misses, or why the call was not made. */
+/* The status of a call: 0, or the number of the first question of document 01 or 02 that the input misses, or why the call was not made. A
+ * status fits a byte; functions return it as a uint64_t, which C++ wants cast to this type. */
 typedef enum newelsage_status {
     NEWELSAGE_ACCEPTED = 0,
     /* a card */
@@ -68,34 +73,34 @@ typedef enum newelsage_status {
     NEWELSAGE_WRONG_MINUTES = 19,       /* issue */
     NEWELSAGE_TOKEN_TAKEN = 20,         /* issue */
     NEWELSAGE_TOKENS_FULL = 21,         /* issue */
-    NEWELSAGE_NO_TOKEN = 22,            /* brief and token */
+    NEWELSAGE_NO_TOKEN = 22,            /* brief; and the library's own NEWELSAGE_TAG_TOKEN: none at that place */
     NEWELSAGE_NO_RECORD = 23,           /* write */
     NEWELSAGE_BUFFER_TOO_SHORT = 24,    /* write */
-    /* the call was not made: with the last two no byte has changed but the answer's, with the first none of a ledger that the library made */
-    NEWELSAGE_MALFORMED = 256,    /* the function has no such tag, or the value has not the tag's length */
-    NEWELSAGE_STATE_TOO_SHORT = 257, /* size is below newelsage_size(): no byte of the ledger was touched */
-    NEWELSAGE_NOT_A_LEDGER = 258  /* the memory does not begin as a ledger of this version does */
+    /* the call was not made. 102, 103: only the answer was written. 101: a ledger that the library made is unchanged */
+    NEWELSAGE_MALFORMED = 101,        /* the function has no such tag, or the value's length is wrong for the tag */
+    NEWELSAGE_MEMORY_TOO_SHORT = 102, /* size is below newelsage_size(): no byte of the ledger was touched */
+    NEWELSAGE_NOT_A_LEDGER = 103      /* the memory does not begin as a ledger of this version does */
 } newelsage_status;
 
 /* The tags: those of the replay format, and below 0x10 the library's own. */
 typedef enum newelsage_tag {
     /* newelsage_ask: what the ledger holds, and one of its tokens */
-    NEWELSAGE_COUNTS = 0x00, /* value: none. values: patient, clock, records, active directives, tokens */
-    NEWELSAGE_TOKEN = 0x01,  /* value: place 1, from 0 in order of issue. values: number, person, state set, until */
+    NEWELSAGE_TAG_COUNTS = 0x00, /* value: none. values: patient, clock, records, active directives, tokens */
+    NEWELSAGE_TAG_TOKEN = 0x01,  /* value: place 1, from 0 in order of issue. values: number, person, state set, until */
     /* newelsage_call */
-    NEWELSAGE_COMMIT = 0x10,  /* value: a draft, of any length */
-    NEWELSAGE_REVOKE = 0x11,  /* value: number 2 */
-    NEWELSAGE_ADVANCE = 0x12, /* value: minute 4. values: directives dropped, tokens dropped */
-    NEWELSAGE_ISSUE = 0x13,   /* value: number 2, person 2, state set 1, length 4 */
+    NEWELSAGE_TAG_COMMIT = 0x10,  /* value: a draft, of any length */
+    NEWELSAGE_TAG_REVOKE = 0x11,  /* value: number 2 */
+    NEWELSAGE_TAG_ADVANCE = 0x12, /* value: minute 4. values: directives dropped, tokens dropped */
+    NEWELSAGE_TAG_ISSUE = 0x13,   /* value: number 2, person 2, state set 1, length 4 */
     /* newelsage_ask */
-    NEWELSAGE_DECIDE = 0x14, /* value: person 2, role 2, origin 1, record 1, purpose 1. values: effect (1 permit, 0 deny), basis,
+    NEWELSAGE_TAG_DECIDE = 0x14, /* value: person 2, role 2, origin 1, record 1, purpose 1. values: effect (1 permit, 0 deny), basis,
                                 and for basis 3 the directive's number */
-    NEWELSAGE_BRIEF = 0x15,  /* value: number 2, person 2. values: the two words, the count */
-    NEWELSAGE_WRITE = 0x16,  /* value: how much of the buffer is lent 2. values: the card's length; the card stands in the buffer */
-    NEWELSAGE_PREVIEW = 0x17 /* value: person 2, role 2, origin 1, purpose 1, then a draft. values: the two words, the count */
+    NEWELSAGE_TAG_BRIEF = 0x15,  /* value: number 2, person 2. values: the two words, the count */
+    NEWELSAGE_TAG_WRITE = 0x16,  /* value: at most so many bytes of the buffer are used 2. values: the card's length; the card stands in the buffer */
+    NEWELSAGE_TAG_PREVIEW = 0x17 /* value: person 2, role 2, origin 1, purpose 1, then a draft. values: the two words, the count */
 } newelsage_tag;
 
-/* An answer: the status, and the first `count` of `values`; what stands behind them has no meaning. */
+/* An answer: the status, and the first `count` of `values`, at most 6; what stands behind them has no meaning. */
 typedef struct newelsage_answer {
     uint64_t status;
     uint64_t count;
@@ -117,7 +122,7 @@ uint64_t newelsage_read(newelsage_ledger *ledger, size_t size, const uint8_t *ca
 uint64_t newelsage_call(newelsage_ledger *ledger, size_t size, uint8_t tag, const uint8_t *value, size_t value_length,
                         newelsage_answer *answer);
 
-/* A call that changes nothing of the ledger. `lent` is written by NEWELSAGE_WRITE alone, and only where that is accepted; bytes after the
+/* A call that changes nothing of the ledger. `lent` is written by NEWELSAGE_TAG_WRITE alone, and only where that is accepted; bytes after the
  * card keep their content. */
 uint64_t newelsage_ask(const newelsage_ledger *ledger, size_t size, uint8_t tag, const uint8_t *value, size_t value_length,
                        uint8_t *lent, size_t lent_length, newelsage_answer *answer);

@@ -204,6 +204,10 @@ SHORTEST_REST = bytes.fromhex("020001 00" "03000a 00 0000 0001 0001 00 0000")
 HEAD_LENGTH = 10
 
 
+def directive_of(value):
+    return Directive(*struct.unpack(DIRECTIVE, value))
+
+
 def fields(card):
     """The fields of a card; raises ValueError where one does not stand whole."""
     offset = 0
@@ -213,6 +217,15 @@ def fields(card):
         if start > len(card) or end > len(card):
             raise ValueError("a field does not stand whole")
         yield Field(offset, card[offset], card[start:end], end)
+        offset = end
+
+
+def spans(card):
+    """Where each field of a card starts and ends; the card may end within the last one."""
+    offset = 0
+    while offset < len(card):
+        end = min(offset + 3 + int.from_bytes(card[offset + 1 : offset + 3], "big"), len(card))
+        yield offset, end
         offset = end
 
 
@@ -250,7 +263,7 @@ def written_of(card):
     try:
         head, roles, *rest = fields(card)
         records = [Record(*struct.unpack(RECORD, field.value)) for field in rest if field.tag == 3]
-        directives = [Directive(*struct.unpack(DIRECTIVE, field.value)) for field in rest if field.tag == 4]
+        directives = [directive_of(field.value) for field in rest if field.tag == 4]
         edition, patient, clock = struct.unpack(HEAD, head.value)
     except (ValueError, struct.error) as error:
         raise Failure("the card that the library writes cannot be read") from error
@@ -285,11 +298,23 @@ def decision_of(answer):
     return Decision(effect, basis, number_of_3[0] if number_of_3 else None)
 
 
-def decisions_of(ledger, column, records):
-    """The decisions for each record, or None where the register does not have such a requester."""
+def decisions_of(ledger, column, records, directives):
+    """The decisions for each record, or None where the register does not have such a requester. The directives are the active ones."""
     answers = [ledger.decide(column.person, column.role, column.origin, i, column.purpose) for i in range(records)]
-    out_of_range = [answer.status == Status.REQUEST_OUT_OF_RANGE for answer in answers]
-    return None if all(out_of_range) else [decision_of(answer) for answer in answers]
+    if all(answer.status == Status.REQUEST_OUT_OF_RANGE for answer in answers):
+        return None
+    decisions = [decision_of(answer) for answer in answers]
+    effects = {directive.number: directive.effect for directive in directives}
+    if not all(is_borne_out(decision, effects) for decision in decisions):
+        raise Failure("the library answers a decision that its basis does not bear out")
+    return decisions
+
+
+def is_borne_out(decision, effects):
+    """Whether the effect is that of the basis: the patient and the author may read, a directive says what it says."""
+    if decision.basis == 3:
+        return effects.get(decision.number) == decision.effect
+    return decision.basis == 4 or decision.effect == PERMIT
 
 
 def shown_column(decisions, **more):
@@ -358,6 +383,8 @@ FIELD = {
     "byte": (CARD_BYTES, None),
     "words": str,
 }
+# What the page takes over as a sentence.
+PLAIN_WORDS = re.compile("[ -~]{1,300}")
 # What a refusal adds to the facts of a card's directive and of a draft.
 REASONS = {
     Status.BREAKS_BASELINE: {"patient": bool, "records": [255]},
@@ -580,7 +607,7 @@ class Gateway:
         card["clock"] = ledger.counts().clock
         calls = [self._call(ledger, call, place) for place, call in enumerate(query.calls)]
         written = written_by(ledger)
-        columns = [decisions_of(ledger, column, records) for column in query.columns]
+        columns = [decisions_of(ledger, column, records, written.directives) for column in query.columns]
         return {
             "card": card,
             "calls": calls,
@@ -636,20 +663,31 @@ class Gateway:
         )
         if not same or field is None or not self._is_faulty(card, read.status, field):
             return self._not_shown(f"the place of a card's fault (question {read.status})")
-        return {"field" if name == "index" else name: part for name, part in field.items()}
+        byte, words = field["byte"], field["words"]
+        if byte is not None and not self._matters(card[: field["end"]], read.status, byte):
+            byte = None
+        if not PLAIN_WORDS.fullmatch(words):
+            self.warn("the explaining program's words for a card's fault are not plain ones; they are not shown")
+            words = None
+        place = {name: field[name] for name in ("tag", "offset", "end")}
+        return {"field": field["index"], **place, "byte": byte, "words": words}
+
+    def _status(self, card):
+        return Ledger(self.library).read(card).status
 
     def _is_faulty(self, card, status, field):
-        """Whether the card is as it should be up to this field, and is refused by the end of it."""
-        offset, end, byte = field["offset"], field["end"], field["byte"]
-        if not offset < end <= len(card) or field["tag"] != card[offset]:
+        """Whether this is one whole field of the card, the card is as it should be up to it, and is refused by the end of it."""
+        index, offset, end, byte = (field[name] for name in ("index", "offset", "end", "byte"))
+        if list(spans(card))[index : index + 1] != [(offset, end)] or field["tag"] != card[offset]:
             return False
         if byte is not None and not offset <= byte < end:
             return False
-        if Ledger(self.library).read(card[:offset]).status not in (Status.ACCEPTED, Status.INCOMPLETE):
-            return False
-        if field["index"] != len(list(fields(card[:offset]))):
-            return False
-        return Ledger(self.library).read(card[:end]).status == status
+        return self._status(card[:offset]) in (Status.ACCEPTED, Status.INCOMPLETE) and self._status(card[:end]) == status
+
+    def _matters(self, card, status, byte):
+        """Whether a card is not refused in this way with some other value of the byte."""
+        others = (card[:byte] + bytes([value]) + card[byte + 1 :] for value in range(256) if value != card[byte])
+        return any(self._status(other) != status for other in others)
 
     # a draft
 
@@ -657,16 +695,16 @@ class Gateway:
         after = ledger.copy()
         committed = after.commit(query.draft)
         if committed.accepted:
-            return {"status": 0, "columns": self._previews(ledger, after, query, columns)}
+            return {"status": 0, "columns": self._previews(ledger, after, written, query, columns)}
         if any(ledger.preview(*column, query.draft) != committed for column in query.columns):
             raise Failure("the preview and the commit do not agree")
         return {"status": committed.status, **self._reason(written, query.draft, committed)}
 
     @staticmethod
-    def _previews(ledger, after, query, columns):
-        records = ledger.counts().records
+    def _previews(ledger, after, written, query, columns):
+        directives = [*written.directives, directive_of(query.draft)]
         return [
-            preview_of(ledger, column, query.draft, before, decisions_of(after, column, records))
+            preview_of(ledger, column, query.draft, before, decisions_of(after, column, len(written.records), directives))
             for column, before in zip(query.columns, columns)
         ]
 
@@ -684,7 +722,7 @@ class Gateway:
         if facts["tag"] != Tag.COMMIT or facts["line"] != line:
             facts = None
         trial = Trial(self.library, written)
-        return reasons[committed.status](trial, Directive(*struct.unpack(DIRECTIVE, draft)), committed, facts)
+        return reasons[committed.status](trial, directive_of(draft), committed, facts)
 
     def _baseline(self, trial, draft, _, facts):
         patient = draft.subject == trial.written.patient

@@ -35,7 +35,7 @@ uint64_t newelsage_call(newelsage_ledger *ledger, size_t size, uint8_t tag, cons
 uint64_t newelsage_ask(const newelsage_ledger *ledger, size_t size, uint8_t tag, const uint8_t *value, size_t value_length,
                        uint8_t *lent, size_t lent_length, newelsage_answer *answer) {
     uint64_t status = proved_ask(ledger, size, tag, value, value_length, lent, lent_length, answer);
-    if (tag == NEWELSAGE_DECIDE && status == NEWELSAGE_ACCEPTED) {
+    if (tag == NEWELSAGE_TAG_DECIDE && status == NEWELSAGE_ACCEPTED) {
         answer->values[0] = 1;
     }
     return status;

@@ -34,9 +34,15 @@ TYPES = {
     ".css": "text/css; charset=utf-8",
     ".js": "text/javascript; charset=utf-8",
     ".json": "application/json",
+    ".svg": "image/svg+xml",
 }
 JSON = TYPES[".json"]
 ENDPOINT = "/answer"
+
+# What browsers ask for by themselves: the card of the page's head.
+ICON = b"""<svg xmlns="http://www.w3.org/2000/svg" viewBox="0 0 24 24" fill="none" stroke="#0a5a7c" stroke-width="2">
+<rect x="2.5" y="5" width="19" height="14" rx="2.5" fill="#ffffff"/><path d="M6.5 12.3l2.2 2.2 4-4.6M15.5 10h3M15.5 14h3"/></svg>
+"""
 
 BODY_BYTES = 1 << 20
 LABEL_BYTES = 1 << 20
@@ -286,7 +292,7 @@ class Screen(http.server.ThreadingHTTPServer):
     request_queue_size = 64
 
     def __init__(self, port, pages, opened, gateway, seconds=SECONDS):
-        self.pages = {**pages, "/opened": (JSON, encoded(opened))}
+        self.pages = {**pages, "/favicon.ico": (TYPES[".svg"], ICON), "/opened": (JSON, encoded(opened))}
         self.gateway = gateway
         self.seconds = seconds
         self.workers = threading.Semaphore(WORKERS)

@@ -286,6 +286,29 @@ class Answers(WithGateway):
                 with self.assertRaises(answers.Failure, msg=values):
                     self.answer(columns=[column()])
 
+    def test_decisions_that_their_basis_does_not_bear_out(self):
+        for values in ((0, 1), (0, 2), (1, 3, 1), (0, 3, 2), (1, 3, 2)):
+            with unittest.mock.patch.object(newelsage.Ledger, "decide", lambda *_, values=values: newelsage.Answer(0, values)):
+                with self.assertRaises(answers.Failure, msg=values):
+                    self.answer(calls=[commit(A)], columns=[column()])
+        for values in ((1, 1), (1, 2), (0, 3, 1)):
+            with unittest.mock.patch.object(newelsage.Ledger, "decide", lambda *_, values=values: newelsage.Answer(0, values)):
+                shown = self.answer(calls=[commit(A)], columns=[column()])["columns"][0]["decisions"][0]
+                self.assertEqual((shown["effect"], shown["basis"]), values[:2])
+
+    def test_a_draft_that_decides_otherwise_than_it_says(self):
+        decide = newelsage.Ledger.decide
+
+        def turned(ledger, *asked):
+            answer = decide(ledger, *asked)
+            return newelsage.Answer(0, (1, 3, 1)) if answer.values[1:] == (3, 1) else answer
+
+        unchanged = newelsage.Answer(0, (0, 0, 0))
+        with unittest.mock.patch.object(newelsage.Ledger, "decide", turned):
+            with unittest.mock.patch.object(newelsage.Ledger, "preview", lambda *_: unchanged):
+                with self.assertRaisesRegex(answers.Failure, "basis"):
+                    self.answer(columns=[column()], draft=A)
+
     def test_a_preview_that_does_not_refuse_as_the_commit(self):
         for answer in (newelsage.Answer(0, (0, 0, 0)), newelsage.Answer(13, (2,)), newelsage.Answer(17)):
             with unittest.mock.patch.object(newelsage.Ledger, "preview", lambda *_, answer=answer: answer):
@@ -497,9 +520,10 @@ class Lies(Explained):
         self.printing({"card": {"refusal": 4, "field": truth}, "calls": []})
         self.assertEqual(self.answer(card=card)["card"]["fault"]["offset"], 30)
         lies = [
-            *({"index": 2}, {"tag": 4}, {"tag": None}, {"offset": 31}, {"end": 42}, {"end": 57}, {"byte": 29}, {"byte": 43}),
+            *({"index": 2}, {"index": 5}, {"tag": 4}, {"tag": None}, {"offset": 31}, {"end": 42}, {"end": 57}, {"byte": 29}, {"byte": 43}),
             *({"index": 2, "offset": 17, "end": 30, "byte": None}, {"index": 4, "offset": 43, "end": 56, "byte": None}),
-            {"offset": 43, "end": 43, "byte": None},
+            *({"offset": 43, "end": 43, "byte": None}, {"end": 56}, {"index": 2, "offset": 17}),
+            *({"index": 2, "offset": 17, "end": 56}, {"index": 0, "tag": 1, "offset": 0, "end": 56}),
         ]
         for lie in lies:
             self.printing({"card": {"refusal": 4, "field": {**truth, **lie}}, "calls": []})
@@ -507,6 +531,36 @@ class Lies(Explained):
         for facts in ({"refusal": 0}, {"refusal": 2, "field": truth}, {"refusal": 4, "field": None}):
             self.printing({"card": facts, "calls": []})
             self.not_shown(self.answer(card=card)["card"]["fault"], None)
+
+    def test_the_place_of_a_fault_on_a_card_that_is_cut(self):
+        for length, end in ((50, 50), (45, 45), (44, 44)):
+            truth = {"index": 4, "tag": 3, "offset": 43, "end": end, "byte": None, "words": "It is cut."}
+            self.printing({"card": {"refusal": 1, "field": truth}, "calls": []})
+            self.assertEqual(self.answer(card=SAMPLE[:length])["card"]["fault"]["end"], end)
+            self.printing({"card": {"refusal": 1, "field": {**truth, "end": 56}}, "calls": []})
+            self.not_shown(self.answer(card=SAMPLE[:length])["card"]["fault"], None)
+
+    def test_the_wrong_byte_of_a_fault(self):
+        card = SAMPLE[:33] + b"\x05" + SAMPLE[34:]
+        truth = {"index": 3, "tag": 3, "offset": 30, "end": 43, "byte": 33, "words": "Record 1 is inside record 5."}
+        shown = {"field": 3, "tag": 3, "offset": 30, "end": 43, "byte": None, "words": truth["words"]}
+        for byte, there in ((33, True), (30, True), (34, False), (42, False)):
+            self.printing({"card": {"refusal": 4, "field": {**truth, "byte": byte}}, "calls": []})
+            self.assertEqual(self.answer(card=card)["card"]["fault"], {**shown, "byte": byte if there else None})
+        self.assertEqual(self.warnings, [])
+
+    def test_the_words_of_a_fault(self):
+        card = SAMPLE[:33] + b"\x05" + SAMPLE[34:]
+        truth = {"index": 3, "tag": 3, "offset": 30, "end": 43, "byte": 33}
+        for words, shown in (
+            *(("It is ~ so.", True), ("x" * 300, True), ("x" * 301, False), ("", False), ("two\nlines", False), ("line\n", False)),
+            *(("\x7f", False), ("\u201cquoted\u201d", False), ("\u202eturned", False)),
+        ):
+            self.printing({"card": {"refusal": 4, "field": {**truth, "words": words}}, "calls": []})
+            fault = self.answer(card=card)["card"]["fault"]
+            self.assertEqual((fault["words"], fault["byte"]), (words if shown else None, 33))
+            self.assertEqual(len(self.warnings), 0 if shown else 1)
+            self.warnings.clear()
 
     def test_the_number_of_a_conflict_on_a_card(self):
         card = SAMPLE + field(A) + field(K5)
@@ -701,7 +755,7 @@ class WithServer(WithGateway):
 
 class Serving(WithServer):
     def test_pages(self):
-        for path, (kind, data) in PAGES.items():
+        for path, (kind, data) in {**PAGES, "/favicon.ico": ("image/svg+xml", server.ICON)}.items():
             reply = self.ask("GET", path)
             self.assertEqual((reply[0], reply[1]["Content-Type"], reply[2]), (200, kind, data))
             self.guarded(reply)
@@ -998,6 +1052,11 @@ class Commands(unittest.TestCase):
 
     SERVER = [sys.executable, "-B", TOP / "ui" / "server.py", "--library", LIBRARY, "--checker", CHECKER]
 
+    @classmethod
+    def setUpClass(cls):
+        # A test in the background of a script may be started with Ctrl-C ignored, and would hand that on to the commands.
+        signal.signal(signal.SIGINT, signal.default_int_handler)
+
     @contextlib.contextmanager
     def started(self, *command):
         """The port that a command serves; the command is ended afterwards."""
@@ -1054,9 +1113,10 @@ class Commands(unittest.TestCase):
         self.refused(*self.SERVER)
 
     def test_the_screen(self):
-        for arguments in ((), (TOP / "samples" / "sample.card",)):
+        visit, sample = (TOP / "samples" / name for name in ("visit.card", "sample.card"))
+        for arguments, card in (((), visit), ((sample,), sample)):
             with self.started(TOP / "screen", *arguments, "--no-browser", "--port", "0") as (process, port):
-                self.assertEqual(self.opened(port)["card"], (TOP / "samples" / "sample.card").read_bytes().hex())
+                self.assertEqual(self.opened(port)["card"], card.read_bytes().hex())
                 process.terminate()
                 self.assertEqual(process.wait(20), 143)
                 with self.assertRaises(ConnectionRefusedError):

@@ -17,7 +17,7 @@ int main(int argc, char **argv) {
     return perror(argv[1]), 2;
   if (newelsage_read(ledger, sizeof memory, card, length, &answer) != NEWELSAGE_ACCEPTED)
     return fprintf(stderr, "card refused: question %d\n", (int)answer.status), 1;
-  if (newelsage_ask(ledger, sizeof memory, NEWELSAGE_DECIDE, request, sizeof request, none, 0, &answer) != NEWELSAGE_ACCEPTED)
+  if (newelsage_ask(ledger, sizeof memory, NEWELSAGE_TAG_DECIDE, request, sizeof request, none, 0, &answer) != NEWELSAGE_ACCEPTED)
     return fprintf(stderr, "request refused: question %d\n", (int)answer.status), 1;
   printf("person 600 %s read record 0: %s", answer.values[0] == 1 ? "may" : "may not", basis[answer.values[1]]);
   if (answer.values[1] == 3)

@@ -106,9 +106,9 @@ static int end_malformed(void) {
 
 /* The tags below 0x10 are the library's own, and none of a replay. */
 static uint64_t run_call(uint8_t tag, size_t length) {
-  if (tag < NEWELSAGE_COMMIT)
+  if (tag < NEWELSAGE_TAG_COMMIT)
     return NEWELSAGE_MALFORMED;
-  if (tag <= NEWELSAGE_ISSUE)
+  if (tag <= NEWELSAGE_TAG_ISSUE)
     return newelsage_call(newelsage_in(&memory), sizeof memory, tag, value, length, &answer);
   return newelsage_ask(newelsage_in(&memory), sizeof memory, tag, value, length, lent, sizeof lent, &answer);
 }
@@ -124,7 +124,7 @@ static void add_answer(uint8_t tag) {
   add_number(answer.status);
   for (size_t i = 0; i < answer.count; i++)
     add_number(answer.values[i]);
-  if (tag == NEWELSAGE_WRITE && answer.status == NEWELSAGE_ACCEPTED)
+  if (tag == NEWELSAGE_TAG_WRITE && answer.status == NEWELSAGE_ACCEPTED)
     add_bytes(lent, answer.values[0]);
 }
 

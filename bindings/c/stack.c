@@ -294,25 +294,25 @@ static void all_calls(void) {
   call(F_READ, 0, &full, NEWELSAGE_ACCEPTED);
   call(F_READ, 0, &covering, NEWELSAGE_ACCEPTED);
   call(F_READ, 0, &opposing, NEWELSAGE_ACCEPTED);
-  on(&full, F_CALL, NEWELSAGE_COMMIT, draft(everything), NEWELSAGE_LIST_FULL);
-  on(&covering, F_CALL, NEWELSAGE_COMMIT, draft(covered), NEWELSAGE_REDUNDANT);
-  on(&covering, F_CALL, NEWELSAGE_COMMIT, draft(everything), NEWELSAGE_ACCEPTED);
-  on(&opposing, F_CALL, NEWELSAGE_COMMIT, draft(opposed), NEWELSAGE_CONFLICT);
-  on(&permitting, F_CALL, NEWELSAGE_COMMIT, draft(everything), NEWELSAGE_ACCEPTED);
-  on(&full, F_CALL, NEWELSAGE_REVOKE, VALUE({2, 1}), NEWELSAGE_ACCEPTED);
-  on(&full, F_CALL, NEWELSAGE_ADVANCE, VALUE({4, 2015}), NEWELSAGE_ACCEPTED);
-  on(&full, F_CALL, NEWELSAGE_ISSUE, VALUE({2, 9}, {2, 600}, {1, 0xFF}, {4, 240}), NEWELSAGE_ACCEPTED);
-  on(&full, F_CALL, NEWELSAGE_DECIDE, nothing, NEWELSAGE_MALFORMED);
-  on(&full, F_ASK, NEWELSAGE_COUNTS, nothing, NEWELSAGE_ACCEPTED);
-  on(&full, F_ASK, NEWELSAGE_DECIDE, VALUE({2, 600}, {2, ROLES - 1}, {1, 3}, {1, 127}, {1, 0}), NEWELSAGE_ACCEPTED);
-  on(&full, F_ASK, NEWELSAGE_WRITE, VALUE({2, FULL_CARD}), NEWELSAGE_ACCEPTED);
-  on(&permitting, F_ASK, NEWELSAGE_PREVIEW, preview(everything), NEWELSAGE_ACCEPTED);
-  on(&covering, F_ASK, NEWELSAGE_PREVIEW, preview(covered), NEWELSAGE_REDUNDANT);
-  on(&opposing, F_ASK, NEWELSAGE_PREVIEW, preview(opposed), NEWELSAGE_CONFLICT);
-  on(&full, F_CALL, NEWELSAGE_ISSUE, VALUE({2, 9}, {2, 600}, {1, 0xFF}, {4, 240}), NEWELSAGE_ACCEPTED);
+  on(&full, F_CALL, NEWELSAGE_TAG_COMMIT, draft(everything), NEWELSAGE_LIST_FULL);
+  on(&covering, F_CALL, NEWELSAGE_TAG_COMMIT, draft(covered), NEWELSAGE_REDUNDANT);
+  on(&covering, F_CALL, NEWELSAGE_TAG_COMMIT, draft(everything), NEWELSAGE_ACCEPTED);
+  on(&opposing, F_CALL, NEWELSAGE_TAG_COMMIT, draft(opposed), NEWELSAGE_CONFLICT);
+  on(&permitting, F_CALL, NEWELSAGE_TAG_COMMIT, draft(everything), NEWELSAGE_ACCEPTED);
+  on(&full, F_CALL, NEWELSAGE_TAG_REVOKE, VALUE({2, 1}), NEWELSAGE_ACCEPTED);
+  on(&full, F_CALL, NEWELSAGE_TAG_ADVANCE, VALUE({4, 2015}), NEWELSAGE_ACCEPTED);
+  on(&full, F_CALL, NEWELSAGE_TAG_ISSUE, VALUE({2, 9}, {2, 600}, {1, 0xFF}, {4, 240}), NEWELSAGE_ACCEPTED);
+  on(&full, F_CALL, NEWELSAGE_TAG_DECIDE, nothing, NEWELSAGE_MALFORMED);
+  on(&full, F_ASK, NEWELSAGE_TAG_COUNTS, nothing, NEWELSAGE_ACCEPTED);
+  on(&full, F_ASK, NEWELSAGE_TAG_DECIDE, VALUE({2, 600}, {2, ROLES - 1}, {1, 3}, {1, 127}, {1, 0}), NEWELSAGE_ACCEPTED);
+  on(&full, F_ASK, NEWELSAGE_TAG_WRITE, VALUE({2, FULL_CARD}), NEWELSAGE_ACCEPTED);
+  on(&permitting, F_ASK, NEWELSAGE_TAG_PREVIEW, preview(everything), NEWELSAGE_ACCEPTED);
+  on(&covering, F_ASK, NEWELSAGE_TAG_PREVIEW, preview(covered), NEWELSAGE_REDUNDANT);
+  on(&opposing, F_ASK, NEWELSAGE_TAG_PREVIEW, preview(opposed), NEWELSAGE_CONFLICT);
+  on(&full, F_CALL, NEWELSAGE_TAG_ISSUE, VALUE({2, 9}, {2, 600}, {1, 0xFF}, {4, 240}), NEWELSAGE_ACCEPTED);
   const bytes brief = VALUE({2, 9}, {2, 600}), place = VALUE({1, 0});
-  call(F_ASK, NEWELSAGE_BRIEF, &brief, NEWELSAGE_ACCEPTED);
-  call(F_ASK, NEWELSAGE_TOKEN, &place, NEWELSAGE_ACCEPTED);
+  call(F_ASK, NEWELSAGE_TAG_BRIEF, &brief, NEWELSAGE_ACCEPTED);
+  call(F_ASK, NEWELSAGE_TAG_TOKEN, &place, NEWELSAGE_ACCEPTED);
 }
 
 int main(int argc, char **argv) {

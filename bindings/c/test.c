@@ -208,41 +208,41 @@ static void sample_register(void) { is(read_card(REGISTER), "0 3 0"); }
 
 static void sample_register_with_a(void) {
   sample_register();
-  is(call(NEWELSAGE_COMMIT, A), "0");
+  is(call(NEWELSAGE_TAG_COMMIT, A), "0");
 }
 
 static void k1(void) {
   sample_register();
-  is(ask(NEWELSAGE_DECIDE, Q), "0 1 4");
-  is(ask(NEWELSAGE_DECIDE, "0258 0001 01 01 01"), "0 0 4");
+  is(ask(NEWELSAGE_TAG_DECIDE, Q), "0 1 4");
+  is(ask(NEWELSAGE_TAG_DECIDE, "0258 0001 01 01 01"), "0 0 4");
 }
 
 static void k2(void) {
   sample_register_with_a();
-  is(ask(NEWELSAGE_DECIDE, Q), "0 0 3 1");
-  is(ask(NEWELSAGE_DECIDE, "0258 0003 01 01 00"), "0 1 4");
+  is(ask(NEWELSAGE_TAG_DECIDE, Q), "0 0 3 1");
+  is(ask(NEWELSAGE_TAG_DECIDE, "0258 0003 01 01 00"), "0 1 4");
 }
 
 static void k3(void) {
   sample_register_with_a();
-  is(ask(NEWELSAGE_DECIDE, "01F5 0001 01 01 00"), "0 1 2");
-  is(ask(NEWELSAGE_DECIDE, "0007 0001 01 01 00"), "0 1 1");
+  is(ask(NEWELSAGE_TAG_DECIDE, "01F5 0001 01 01 00"), "0 1 2");
+  is(ask(NEWELSAGE_TAG_DECIDE, "0007 0001 01 01 00"), "0 1 1");
 }
 
 static void k5(void) {
   sample_register_with_a();
-  is(call(NEWELSAGE_COMMIT, "0002 01 00 0258 FFFF 01 00" REST "000005DC 000009C4"), "13 1");
-  is(call(NEWELSAGE_COMMIT, "0002 01 00 0258 FFFF 01 00" REST "000007D0 000009C4"), "0");
+  is(call(NEWELSAGE_TAG_COMMIT, "0002 01 00 0258 FFFF 01 00" REST "000005DC 000009C4"), "13 1");
+  is(call(NEWELSAGE_TAG_COMMIT, "0002 01 00 0258 FFFF 01 00" REST "000007D0 000009C4"), "0");
 }
 
 static void k10(void) {
   sample_register();
-  is(call(NEWELSAGE_ISSUE, "0009 0258 01 0000001E"), "0");
-  is(ask(NEWELSAGE_BRIEF, "0009 0258"), "0 2 0 1");
-  is(call(NEWELSAGE_ADVANCE, "00000405"), "0 0 0");
-  is(ask(NEWELSAGE_BRIEF, "0009 0258"), "0 2 0 1");
-  is(call(NEWELSAGE_ADVANCE, "00000406"), "0 0 1");
-  is(ask(NEWELSAGE_BRIEF, "0009 0258"), "22");
+  is(call(NEWELSAGE_TAG_ISSUE, "0009 0258 01 0000001E"), "0");
+  is(ask(NEWELSAGE_TAG_BRIEF, "0009 0258"), "0 2 0 1");
+  is(call(NEWELSAGE_TAG_ADVANCE, "00000405"), "0 0 0");
+  is(ask(NEWELSAGE_TAG_BRIEF, "0009 0258"), "0 2 0 1");
+  is(call(NEWELSAGE_TAG_ADVANCE, "00000406"), "0 0 1");
+  is(ask(NEWELSAGE_TAG_BRIEF, "0009 0258"), "22");
 }
 
 /* --- a ledger's life --- */
@@ -256,41 +256,41 @@ static void size_and_version(void) {
 static void empty(void) {
   memset(ledger, PAINT, SIZE);
   expect(newelsage_empty(ledger, SIZE) == NEWELSAGE_ACCEPTED, "not made");
-  is(ask(NEWELSAGE_COUNTS, ""), "0 0 0 0 0 0");
-  is(ask(NEWELSAGE_TOKEN, "00"), "22");
-  is(ask(NEWELSAGE_DECIDE, "0000 0000 00 00 00"), "17");
-  is(call(NEWELSAGE_COMMIT, A), "8");
-  is(call(NEWELSAGE_ADVANCE, "FFFFFFFF"), "0 0 0");
-  is(ask(NEWELSAGE_COUNTS, ""), "0 0 4294967295 0 0 0");
+  is(ask(NEWELSAGE_TAG_COUNTS, ""), "0 0 0 0 0 0");
+  is(ask(NEWELSAGE_TAG_TOKEN, "00"), "22");
+  is(ask(NEWELSAGE_TAG_DECIDE, "0000 0000 00 00 00"), "17");
+  is(call(NEWELSAGE_TAG_COMMIT, A), "8");
+  is(call(NEWELSAGE_TAG_ADVANCE, "FFFFFFFF"), "0 0 0");
+  is(ask(NEWELSAGE_TAG_COUNTS, ""), "0 0 4294967295 0 0 0");
 }
 
 static void counts_and_tokens(void) {
   sample_register_with_a();
-  is(ask(NEWELSAGE_COUNTS, ""), "0 7 1000 3 1 0");
-  is(ask(NEWELSAGE_TOKEN, "00"), "22");
-  is(call(NEWELSAGE_ISSUE, "0009 0258 01 0000001E"), "0");
-  is(call(NEWELSAGE_ISSUE, "0003 0259 C0 000000F0"), "0");
-  is(ask(NEWELSAGE_COUNTS, ""), "0 7 1000 3 1 2");
-  is(ask(NEWELSAGE_TOKEN, "00"), "0 9 600 1 1030");
-  is(ask(NEWELSAGE_TOKEN, "01"), "0 3 601 192 1240");
-  is(ask(NEWELSAGE_TOKEN, "02"), "22");
-  is(ask(NEWELSAGE_TOKEN, "FF"), "22");
-  is(call(NEWELSAGE_ADVANCE, "00000406"), "0 0 1");
-  is(ask(NEWELSAGE_TOKEN, "00"), "0 3 601 192 1240");
-  is(ask(NEWELSAGE_COUNTS, ""), "0 7 1030 3 1 1");
-  is(call(NEWELSAGE_REVOKE, "0001"), "0");
-  is(ask(NEWELSAGE_COUNTS, ""), "0 7 1030 3 0 1");
+  is(ask(NEWELSAGE_TAG_COUNTS, ""), "0 7 1000 3 1 0");
+  is(ask(NEWELSAGE_TAG_TOKEN, "00"), "22");
+  is(call(NEWELSAGE_TAG_ISSUE, "0009 0258 01 0000001E"), "0");
+  is(call(NEWELSAGE_TAG_ISSUE, "0003 0259 C0 000000F0"), "0");
+  is(ask(NEWELSAGE_TAG_COUNTS, ""), "0 7 1000 3 1 2");
+  is(ask(NEWELSAGE_TAG_TOKEN, "00"), "0 9 600 1 1030");
+  is(ask(NEWELSAGE_TAG_TOKEN, "01"), "0 3 601 192 1240");
+  is(ask(NEWELSAGE_TAG_TOKEN, "02"), "22");
+  is(ask(NEWELSAGE_TAG_TOKEN, "FF"), "22");
+  is(call(NEWELSAGE_TAG_ADVANCE, "00000406"), "0 0 1");
+  is(ask(NEWELSAGE_TAG_TOKEN, "00"), "0 3 601 192 1240");
+  is(ask(NEWELSAGE_TAG_COUNTS, ""), "0 7 1030 3 1 1");
+  is(call(NEWELSAGE_TAG_REVOKE, "0001"), "0");
+  is(ask(NEWELSAGE_TAG_COUNTS, ""), "0 7 1030 3 0 1");
 }
 
 static void previews(void) {
   sample_register();
-  is(ask(NEWELSAGE_PREVIEW, "0258 0001 01 00" A), "0 6 0 2");
-  is(ask(NEWELSAGE_PREVIEW, "0258 0003 01 00" A), "0 0 0 0");
-  is(ask(NEWELSAGE_PREVIEW, "0258 0004 01 00" A), "17");
-  is(ask(NEWELSAGE_PREVIEW, "0258 0001 01 00"), "6");
-  is(call(NEWELSAGE_COMMIT, A), "0");
-  is(ask(NEWELSAGE_PREVIEW, "0258 0001 01 00" A), "10");
-  is(ask(NEWELSAGE_PREVIEW, "0258 0001 01 00 0002 01 00 0258 FFFF 01 00" REST "000005DC 000009C4"), "13 1");
+  is(ask(NEWELSAGE_TAG_PREVIEW, "0258 0001 01 00" A), "0 6 0 2");
+  is(ask(NEWELSAGE_TAG_PREVIEW, "0258 0003 01 00" A), "0 0 0 0");
+  is(ask(NEWELSAGE_TAG_PREVIEW, "0258 0004 01 00" A), "17");
+  is(ask(NEWELSAGE_TAG_PREVIEW, "0258 0001 01 00"), "6");
+  is(call(NEWELSAGE_TAG_COMMIT, A), "0");
+  is(ask(NEWELSAGE_TAG_PREVIEW, "0258 0001 01 00" A), "10");
+  is(ask(NEWELSAGE_TAG_PREVIEW, "0258 0001 01 00 0002 01 00 0258 FFFF 01 00" REST "000005DC 000009C4"), "13 1");
 }
 
 /* A refused card gives the empty ledger, whatever stood there. */
@@ -307,10 +307,10 @@ static void refused_cards(void) {
   };
   for (size_t i = 0; i < sizeof rows / sizeof *rows; i++) {
     sample_register_with_a();
-    is(call(NEWELSAGE_ISSUE, "0009 0258 01 0000001E"), "0");
+    is(call(NEWELSAGE_TAG_ISSUE, "0009 0258 01 0000001E"), "0");
     is(read_card(rows[i].card), rows[i].line);
-    is(ask(NEWELSAGE_COUNTS, ""), "0 0 0 0 0 0");
-    is(ask(NEWELSAGE_BRIEF, "0009 0258"), "22");
+    is(ask(NEWELSAGE_TAG_COUNTS, ""), "0 0 0 0 0 0");
+    is(ask(NEWELSAGE_TAG_BRIEF, "0009 0258"), "22");
   }
   static const uint8_t zeros[LONG];
   is(read_bytes(SIZE, zeros, LONG), "2");
@@ -321,27 +321,27 @@ static void refused_cards(void) {
 
 static void refused_calls(void) {
   sample_register_with_a();
-  is_refused(NEWELSAGE_COMMIT, "", "6");
-  is_refused(NEWELSAGE_COMMIT, A " 00", "6");
-  is_refused(NEWELSAGE_COMMIT, "0002 02 01 0001 FFFF 00 02" REST "000003E8 000007D0", "7");
-  is_refused(NEWELSAGE_COMMIT, "0002 00 01 0004 FFFF 00 02" REST "000003E8 000007D0", "8");
-  is_refused(NEWELSAGE_COMMIT, "0002 00 01 0001 FFFF 03 02" REST "000003E8 000007D0", "8");
-  is_refused(NEWELSAGE_COMMIT, "0002 00 01 0001 FFFF 00 02" REST "00000000 000003E8", "9");
-  is_refused(NEWELSAGE_COMMIT, A, "10");
-  is_refused(NEWELSAGE_COMMIT, "0002 00 00 01F6 FFFF 01 01" REST "000003E8 000007D0", "12");
-  is_refused(NEWELSAGE_COMMIT, "0002 01 00 0258 FFFF 01 00" REST "000005DC 000009C4", "13 1");
-  is_refused(NEWELSAGE_COMMIT, "0002 00 01 0002 FFFF 01 01" REST "000003E8 000007D0", "14");
-  is_refused(NEWELSAGE_REVOKE, "0002", "15");
-  is_refused(NEWELSAGE_ADVANCE, "000003E7", "16");
-  is_refused(NEWELSAGE_ISSUE, "0009 0258 00 0000001E", "18");
-  is_refused(NEWELSAGE_ISSUE, "0009 0258 01 00000000", "19");
-  is_refused(NEWELSAGE_ISSUE, "0009 0258 01 000000F1", "19");
+  is_refused(NEWELSAGE_TAG_COMMIT, "", "6");
+  is_refused(NEWELSAGE_TAG_COMMIT, A " 00", "6");
+  is_refused(NEWELSAGE_TAG_COMMIT, "0002 02 01 0001 FFFF 00 02" REST "000003E8 000007D0", "7");
+  is_refused(NEWELSAGE_TAG_COMMIT, "0002 00 01 0004 FFFF 00 02" REST "000003E8 000007D0", "8");
+  is_refused(NEWELSAGE_TAG_COMMIT, "0002 00 01 0001 FFFF 03 02" REST "000003E8 000007D0", "8");
+  is_refused(NEWELSAGE_TAG_COMMIT, "0002 00 01 0001 FFFF 00 02" REST "00000000 000003E8", "9");
+  is_refused(NEWELSAGE_TAG_COMMIT, A, "10");
+  is_refused(NEWELSAGE_TAG_COMMIT, "0002 00 00 01F6 FFFF 01 01" REST "000003E8 000007D0", "12");
+  is_refused(NEWELSAGE_TAG_COMMIT, "0002 01 00 0258 FFFF 01 00" REST "000005DC 000009C4", "13 1");
+  is_refused(NEWELSAGE_TAG_COMMIT, "0002 00 01 0002 FFFF 01 01" REST "000003E8 000007D0", "14");
+  is_refused(NEWELSAGE_TAG_REVOKE, "0002", "15");
+  is_refused(NEWELSAGE_TAG_ADVANCE, "000003E7", "16");
+  is_refused(NEWELSAGE_TAG_ISSUE, "0009 0258 00 0000001E", "18");
+  is_refused(NEWELSAGE_TAG_ISSUE, "0009 0258 01 00000000", "19");
+  is_refused(NEWELSAGE_TAG_ISSUE, "0009 0258 01 000000F1", "19");
   for (unsigned number = 1; number <= 4; number++) {
     put(put(put(put(scratch, 2, number), 2, 600), 1, 1), 4, 30);
-    is(call_bytes(SIZE, NEWELSAGE_ISSUE, scratch, 9), "0");
+    is(call_bytes(SIZE, NEWELSAGE_TAG_ISSUE, scratch, 9), "0");
   }
-  is_refused(NEWELSAGE_ISSUE, "0004 0258 01 0000001E", "20");
-  is_refused(NEWELSAGE_ISSUE, "0005 0258 01 0000001E", "21");
+  is_refused(NEWELSAGE_TAG_ISSUE, "0004 0258 01 0000001E", "20");
+  is_refused(NEWELSAGE_TAG_ISSUE, "0005 0258 01 0000001E", "21");
 }
 
 /* Denies of record 1 for the persons 601 to 632 and one more. */
@@ -353,26 +353,26 @@ static void full_list(void) {
     put(draft, 2, number);
     put(draft + 4, 2, 600 + number);
     keep();
-    is(call_bytes(SIZE, NEWELSAGE_COMMIT, draft, sizeof draft), number <= 32 ? "0" : "11");
+    is(call_bytes(SIZE, NEWELSAGE_TAG_COMMIT, draft, sizeof draft), number <= 32 ? "0" : "11");
   }
   expect(unchanged(), "refused with 11, and the ledger is another");
-  is(ask(NEWELSAGE_COUNTS, ""), "0 7 1000 3 32 0");
-  is(call(NEWELSAGE_ADVANCE, "000007D0"), "0 32 0");
+  is(ask(NEWELSAGE_TAG_COUNTS, ""), "0 7 1000 3 32 0");
+  is(call(NEWELSAGE_TAG_ADVANCE, "000007D0"), "0 32 0");
 }
 
 /* --- calls that are not made --- */
 
-static const uint8_t call_tags[] = {NEWELSAGE_COMMIT, NEWELSAGE_REVOKE, NEWELSAGE_ADVANCE, NEWELSAGE_ISSUE};
-static const uint8_t ask_tags[] = {NEWELSAGE_COUNTS, NEWELSAGE_TOKEN, NEWELSAGE_DECIDE, NEWELSAGE_BRIEF, NEWELSAGE_WRITE, NEWELSAGE_PREVIEW};
+static const uint8_t call_tags[] = {NEWELSAGE_TAG_COMMIT, NEWELSAGE_TAG_REVOKE, NEWELSAGE_TAG_ADVANCE, NEWELSAGE_TAG_ISSUE};
+static const uint8_t ask_tags[] = {NEWELSAGE_TAG_COUNTS, NEWELSAGE_TAG_TOKEN, NEWELSAGE_TAG_DECIDE, NEWELSAGE_TAG_BRIEF, NEWELSAGE_TAG_WRITE, NEWELSAGE_TAG_PREVIEW};
 
 /* The length of each tag's value, and whether a draft follows, of any length. */
 static const struct {
   uint8_t tag, length;
   bool draft;
 } lengths[] = {
-    {NEWELSAGE_COUNTS, 0, false},  {NEWELSAGE_TOKEN, 1, false}, {NEWELSAGE_COMMIT, 0, true}, {NEWELSAGE_REVOKE, 2, false},
-    {NEWELSAGE_ADVANCE, 4, false}, {NEWELSAGE_ISSUE, 9, false}, {NEWELSAGE_DECIDE, 7, false}, {NEWELSAGE_BRIEF, 4, false},
-    {NEWELSAGE_WRITE, 2, false},   {NEWELSAGE_PREVIEW, 6, true},
+    {NEWELSAGE_TAG_COUNTS, 0, false},  {NEWELSAGE_TAG_TOKEN, 1, false}, {NEWELSAGE_TAG_COMMIT, 0, true}, {NEWELSAGE_TAG_REVOKE, 2, false},
+    {NEWELSAGE_TAG_ADVANCE, 4, false}, {NEWELSAGE_TAG_ISSUE, 9, false}, {NEWELSAGE_TAG_DECIDE, 7, false}, {NEWELSAGE_TAG_BRIEF, 4, false},
+    {NEWELSAGE_TAG_WRITE, 2, false},   {NEWELSAGE_TAG_PREVIEW, 6, true},
 };
 
 static size_t length_of(unsigned tag) {
@@ -402,7 +402,7 @@ static void is_not_made(uint64_t status, newelsage_status expected, unsigned tag
 static void malformed(void) {
   static const uint8_t zeros[LONG];
   sample_register_with_a();
-  is(call(NEWELSAGE_ISSUE, "0009 0258 01 0000001E"), "0");
+  is(call(NEWELSAGE_TAG_ISSUE, "0009 0258 01 0000001E"), "0");
   keep();
   lent_length = 26;
   for (unsigned tag = 0; tag < 256; tag++) {
@@ -432,12 +432,12 @@ static void too_short(void) {
   ledger = (newelsage_ledger *)(void *)guard;
   lent_length = 64;
   for (size_t size = 0; size < SIZE; size++) {
-    expect(newelsage_empty(ledger, size) == NEWELSAGE_STATE_TOO_SHORT, "empty takes %zu bytes", size);
+    expect(newelsage_empty(ledger, size) == NEWELSAGE_MEMORY_TOO_SHORT, "empty takes %zu bytes", size);
     size_t length = unhex(SAMPLE, scratch);
-    is_not_made(read_bytes(size, scratch, length), NEWELSAGE_STATE_TOO_SHORT, 0, size);
+    is_not_made(read_bytes(size, scratch, length), NEWELSAGE_MEMORY_TOO_SHORT, 0, size);
     for (unsigned tag = 0; tag < 0x20; tag++) {
-      is_not_made(call_bytes(size, tag, zeros, length_of(tag)), NEWELSAGE_STATE_TOO_SHORT, tag, size);
-      is_not_made(ask_bytes(size, tag, zeros, length_of(tag)), NEWELSAGE_STATE_TOO_SHORT, tag, size);
+      is_not_made(call_bytes(size, tag, zeros, length_of(tag)), NEWELSAGE_MEMORY_TOO_SHORT, tag, size);
+      is_not_made(ask_bytes(size, tag, zeros, length_of(tag)), NEWELSAGE_MEMORY_TOO_SHORT, tag, size);
       expect(lent_is_kept(), "the buffer is written");
     }
   }
@@ -451,11 +451,11 @@ static void longer_memory(void) {
   size_t length = unhex(REGISTER, scratch);
   is(read_bytes(ledger_area.size, scratch, length), "0 3 0");
   length = unhex(A, scratch);
-  is(call_bytes(ledger_area.size, NEWELSAGE_COMMIT, scratch, length), "0");
+  is(call_bytes(ledger_area.size, NEWELSAGE_TAG_COMMIT, scratch, length), "0");
   length = unhex(Q, scratch);
-  is(ask_bytes(ledger_area.size, NEWELSAGE_DECIDE, scratch, length), "0 0 3 1");
+  is(ask_bytes(ledger_area.size, NEWELSAGE_TAG_DECIDE, scratch, length), "0 0 3 1");
   expect(all_are(ledger_area.start + SIZE, ledger_area.size - SIZE, PAINT), "bytes after the ledger are written");
-  is(ask(NEWELSAGE_DECIDE, Q), "0 0 3 1");
+  is(ask(NEWELSAGE_TAG_DECIDE, Q), "0 0 3 1");
 }
 
 /* No call is made on these bytes. */
@@ -494,7 +494,7 @@ static void not_a_ledger(void) {
     is_no_ledger("a changed stamp");
     ledger_bytes()[byte] = right;
   }
-  is(ask(NEWELSAGE_DECIDE, Q), "0 0 3 1");
+  is(ask(NEWELSAGE_TAG_DECIDE, Q), "0 0 3 1");
   memset(ledger, 0, SIZE);
   sample_register();
 }
@@ -504,23 +504,23 @@ static void not_a_ledger(void) {
 /* The ledger stands in memory that cannot be written. */
 static void asking_changes_nothing(void) {
   sample_register_with_a();
-  is(call(NEWELSAGE_ISSUE, "0009 0258 01 0000001E"), "0");
+  is(call(NEWELSAGE_TAG_ISSUE, "0009 0258 01 0000001E"), "0");
   keep();
   mprotect(ledger_area.start, ledger_area.size, PROT_READ);
-  is(ask(NEWELSAGE_COUNTS, ""), "0 7 1000 3 1 1");
-  is(ask(NEWELSAGE_TOKEN, "00"), "0 9 600 1 1030");
-  is(ask(NEWELSAGE_TOKEN, "01"), "22");
-  is(ask(NEWELSAGE_DECIDE, Q), "0 0 3 1");
-  is(ask(NEWELSAGE_DECIDE, "0258 0004 01 01 00"), "17");
-  is(ask(NEWELSAGE_BRIEF, "0009 0258"), "0 2 0 1");
-  is(ask(NEWELSAGE_BRIEF, "0009 0259"), "22");
-  is(ask(NEWELSAGE_PREVIEW, "0258 0001 01 00 0002 01 00 0258 FFFF 00 00" REST "000003E8 000009C4"), "0 1 0 1");
-  is(ask(NEWELSAGE_PREVIEW, "0258 0001 01 00 0002 00 01 0002 FFFF 01 01" REST "000003E8 000007D0"), "14");
-  is(ask(NEWELSAGE_WRITE, "FFFF"), "24");
-  is(ask(NEWELSAGE_WRITE, ""), "256");
-  is(ask(NEWELSAGE_COMMIT, A), "256");
+  is(ask(NEWELSAGE_TAG_COUNTS, ""), "0 7 1000 3 1 1");
+  is(ask(NEWELSAGE_TAG_TOKEN, "00"), "0 9 600 1 1030");
+  is(ask(NEWELSAGE_TAG_TOKEN, "01"), "22");
+  is(ask(NEWELSAGE_TAG_DECIDE, Q), "0 0 3 1");
+  is(ask(NEWELSAGE_TAG_DECIDE, "0258 0004 01 01 00"), "17");
+  is(ask(NEWELSAGE_TAG_BRIEF, "0009 0258"), "0 2 0 1");
+  is(ask(NEWELSAGE_TAG_BRIEF, "0009 0259"), "22");
+  is(ask(NEWELSAGE_TAG_PREVIEW, "0258 0001 01 00 0002 01 00 0258 FFFF 00 00" REST "000003E8 000009C4"), "0 1 0 1");
+  is(ask(NEWELSAGE_TAG_PREVIEW, "0258 0001 01 00 0002 00 01 0002 FFFF 01 01" REST "000003E8 000007D0"), "14");
+  is(ask(NEWELSAGE_TAG_WRITE, "FFFF"), "24");
+  is(ask(NEWELSAGE_TAG_WRITE, ""), "101");
+  is(ask(NEWELSAGE_TAG_COMMIT, A), "101");
   lent_length = 200;
-  is(ask(NEWELSAGE_WRITE, "FFFF"), "0 84");
+  is(ask(NEWELSAGE_TAG_WRITE, "FFFF"), "0 84");
   expect(unchanged(), "another ledger");
   mprotect(ledger_area.start, ledger_area.size, PROT_READ | PROT_WRITE);
 }
@@ -529,7 +529,7 @@ static void asking_changes_nothing(void) {
 static void write_into(size_t length, const char *value, const char *line) {
   uint8_t card[27];
   lent_length = length;
-  is(ask(NEWELSAGE_WRITE, value), line);
+  is(ask(NEWELSAGE_TAG_WRITE, value), line);
   size_t written = answer->status == NEWELSAGE_ACCEPTED ? unhex(SAMPLE, card) : 0;
   expect(memcmp(lent, card, written) == 0, "%s of %zu bytes: not the card", value, length);
   expect(all_are(lent + written, length - written, PAINT), "%s of %zu bytes: the rest is written", value, length);
@@ -578,29 +578,29 @@ static void random_draft(uint8_t *at) {
 static size_t random_value(unsigned tag, uint8_t *value) {
   fill_random(value, 64);
   switch (tag) {
-  case NEWELSAGE_COMMIT:
+  case NEWELSAGE_TAG_COMMIT:
     random_draft(value);
     break;
-  case NEWELSAGE_PREVIEW:
+  case NEWELSAGE_TAG_PREVIEW:
     put(put(put(put(value, 2, 600 + below(4)), 2, below(5)), 1, below(17)), 1, below(12));
     random_draft(value + 6);
     break;
-  case NEWELSAGE_REVOKE:
+  case NEWELSAGE_TAG_REVOKE:
     put(value, 2, below(40));
     break;
-  case NEWELSAGE_ADVANCE:
+  case NEWELSAGE_TAG_ADVANCE:
     put(value, 4, 1000 + below(300));
     break;
-  case NEWELSAGE_ISSUE:
+  case NEWELSAGE_TAG_ISSUE:
     put(put(put(put(value, 2, below(8)), 2, 600 + below(4)), 1, below(256)), 4, below(250));
     break;
-  case NEWELSAGE_DECIDE:
+  case NEWELSAGE_TAG_DECIDE:
     put(put(put(put(put(value, 2, 600 + below(4)), 2, below(5)), 1, below(17)), 1, below(132)), 1, below(12));
     break;
-  case NEWELSAGE_BRIEF:
+  case NEWELSAGE_TAG_BRIEF:
     put(put(value, 2, below(8)), 2, 600 + below(4));
     break;
-  case NEWELSAGE_TOKEN:
+  case NEWELSAGE_TAG_TOKEN:
     put(value, 1, below(6));
     break;
   default:
@@ -647,24 +647,24 @@ static void no_padding(void) {
 /* A ledger is saved while a token is live, and goes on elsewhere. */
 static void saved_in_an_emergency(void) {
   sample_register_with_a();
-  is(call(NEWELSAGE_ADVANCE, "000003F2"), "0 0 0");
-  is(call(NEWELSAGE_ISSUE, "0009 0258 01 0000001E"), "0");
+  is(call(NEWELSAGE_TAG_ADVANCE, "000003F2"), "0 0 0");
+  is(call(NEWELSAGE_TAG_ISSUE, "0009 0258 01 0000001E"), "0");
   FILE *file = tmpfile();
   expect(file != NULL && fwrite(ledger, 1, SIZE, file) == SIZE && fseek(file, 0, SEEK_SET) == 0, "not saved");
   memset(ledger, 0, SIZE);
-  is(ask(NEWELSAGE_BRIEF, "0009 0258"), "258");
+  is(ask(NEWELSAGE_TAG_BRIEF, "0009 0258"), "103");
   ledger = ledger_in(other_area);
   memset(ledger, PAINT, SIZE);
   expect(file != NULL && fread(ledger, 1, SIZE, file) == SIZE && fclose(file) == 0, "not brought back");
-  is(ask(NEWELSAGE_COUNTS, ""), "0 7 1010 3 1 1");
-  is(ask(NEWELSAGE_TOKEN, "00"), "0 9 600 1 1040");
-  is(ask(NEWELSAGE_BRIEF, "0009 0258"), "0 2 0 1");
-  is(call(NEWELSAGE_ISSUE, "0009 0258 01 0000001E"), "20");
-  is(ask(NEWELSAGE_DECIDE, Q), "0 0 3 1");
-  is(call(NEWELSAGE_ADVANCE, "0000040F"), "0 0 0");
-  is(ask(NEWELSAGE_BRIEF, "0009 0258"), "0 2 0 1");
-  is(call(NEWELSAGE_ADVANCE, "00000410"), "0 0 1");
-  is(ask(NEWELSAGE_BRIEF, "0009 0258"), "22");
+  is(ask(NEWELSAGE_TAG_COUNTS, ""), "0 7 1010 3 1 1");
+  is(ask(NEWELSAGE_TAG_TOKEN, "00"), "0 9 600 1 1040");
+  is(ask(NEWELSAGE_TAG_BRIEF, "0009 0258"), "0 2 0 1");
+  is(call(NEWELSAGE_TAG_ISSUE, "0009 0258 01 0000001E"), "20");
+  is(ask(NEWELSAGE_TAG_DECIDE, Q), "0 0 3 1");
+  is(call(NEWELSAGE_TAG_ADVANCE, "0000040F"), "0 0 0");
+  is(ask(NEWELSAGE_TAG_BRIEF, "0009 0258"), "0 2 0 1");
+  is(call(NEWELSAGE_TAG_ADVANCE, "00000410"), "0 0 1");
+  is(ask(NEWELSAGE_TAG_BRIEF, "0009 0258"), "22");
 }
 
 /* --- ledgers that the library did not make --- */
@@ -683,7 +683,7 @@ static void put_every_tag(void) {
     keep();
     uint64_t status = ask_bytes(SIZE, tag, value, length);
     expect(unchanged(), "ask %#x: another ledger", tag);
-    if (tag == NEWELSAGE_WRITE && status == NEWELSAGE_ACCEPTED)
+    if (tag == NEWELSAGE_TAG_WRITE && status == NEWELSAGE_ACCEPTED)
       expect(answer->values[0] <= lent_length, "%" PRIu64 " bytes are written into %zu", answer->values[0], lent_length);
     else
       expect(lent_is_kept(), "ask %#x: the buffer is written", tag);
@@ -712,9 +712,9 @@ static void damaged_ledgers(void) {
   sample_register();
   for (unsigned i = 0; i < 60; i++) {
     random_draft(draft);
-    call_bytes(SIZE, NEWELSAGE_COMMIT, draft, sizeof draft);
+    call_bytes(SIZE, NEWELSAGE_TAG_COMMIT, draft, sizeof draft);
   }
-  is(call(NEWELSAGE_ISSUE, "0001 0258 41 0000001E"), "0");
+  is(call(NEWELSAGE_TAG_ISSUE, "0001 0258 41 0000001E"), "0");
   uint8_t right[SIZE];
   memcpy(right, ledger, SIZE);
   for (size_t byte = 8; byte < SIZE; byte++) {

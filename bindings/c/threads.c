@@ -58,7 +58,7 @@ static void add_answer(text *to, uint8_t tag, const newelsage_answer *answer, co
   add(to, &answer->status, sizeof answer->status);
   add(to, &answer->count, sizeof answer->count);
   add(to, answer->values, answer->count * sizeof answer->values[0]);
-  if (tag == NEWELSAGE_WRITE && answer->status == NEWELSAGE_ACCEPTED)
+  if (tag == NEWELSAGE_TAG_WRITE && answer->status == NEWELSAGE_ACCEPTED)
     add(to, lent, answer->values[0]);
 }
 

@@ -86,7 +86,7 @@ class Malformed(Error):
     """The function has no such tag, or the value has not the tag's length."""
 
 
-class StateTooShort(Error):
+class MemoryTooShort(Error):
     """The memory is shorter than a ledger."""
 
 
@@ -94,7 +94,7 @@ class NotALedger(Error):
     """The memory does not begin as a ledger of this version does."""
 
 
-_NOT_MADE = {256: Malformed, 257: StateTooShort, 258: NotALedger}
+_NOT_MADE = {101: Malformed, 102: MemoryTooShort, 103: NotALedger}
 
 
 class Answer(NamedTuple):

@@ -22,6 +22,8 @@ import newelsage
 from newelsage import Answer, Ledger, Library, Status, Tag
 
 ROOT = Path(__file__).resolve().parent.parent.parent
+VISIT = ROOT / "samples" / "visit.card"
+SAVED = ROOT / "bindings" / "version1.ledger"
 LIBRARY = Path(os.environ.get("NEWELSAGE_LIBRARY", ROOT / "target" / "library" / "libnewelsage.so"))
 HEADER = ROOT / "include" / "newelsage.h"
 CASES = ROOT / "conformance" / "cases.jsonl"
@@ -269,7 +271,7 @@ class States(WithLedger):
             with self.assertRaises(newelsage.NotALedger):
                 self.ledger.restore(wrong)
         for wrong in (b"", before[:8], before[:-1]):
-            with self.assertRaises(newelsage.StateTooShort):
+            with self.assertRaises(newelsage.MemoryTooShort):
                 self.ledger.restore(wrong)
         self.assertEqual(self.ledger.save(), before)
         self.decides(1, 4)
@@ -293,6 +295,18 @@ class States(WithLedger):
             self.ledger.advance(2**32 - 1)
             self.assertEqual(self.ledger.read(SAMPLE), Answer(0, (3, 0)))
 
+    def test_the_stored_ledger(self):
+        """Another layout needs another version: these bytes were saved by version 1."""
+        self.assertTrue(self.ledger.read(VISIT.read_bytes()).accepted)
+        self.assertTrue(self.ledger.issue(9, 600, 0x01, 30).accepted)
+        self.assertEqual(self.ledger.save(), SAVED.read_bytes())
+        other = Ledger(self.library)
+        other.restore(SAVED.read_bytes())
+        self.assertEqual(other.counts(), newelsage.Counts(7, 1000, 3, 1, 1))
+        self.assertEqual(other.tokens(), [newelsage.Token(9, 600, 0x01, 1030)])
+        self.assertEqual(other.decide(600, 1, 1, 1, 0), Answer(0, (0, 3, 1)))
+        self.assertEqual(other.brief(9, 600), Answer(0, (2, 0, 1)))
+
     def test_nothing_beyond_the_memory_is_touched(self):
         size, edge = self.library.size, 64
         memory = (ctypes.c_uint64 * ((size + 2 * edge) // 8))()
@@ -311,9 +325,9 @@ class States(WithLedger):
         ctypes.memset(memory, 0xA5, ctypes.sizeof(memory))
         before, answer = bytes(memory), newelsage._Answer()
         short = self.library.size - 1
-        self.assertEqual(self.library.empty(memory, short), 257)
-        self.assertEqual(self.library.read(memory, short, SAMPLE, len(SAMPLE), ctypes.byref(answer)), 257)
-        self.assertEqual(self.library.call(memory, short, 0x10, A, len(A), ctypes.byref(answer)), 257)
+        self.assertEqual(self.library.empty(memory, short), 102)
+        self.assertEqual(self.library.read(memory, short, SAMPLE, len(SAMPLE), ctypes.byref(answer)), 102)
+        self.assertEqual(self.library.call(memory, short, 0x10, A, len(A), ctypes.byref(answer)), 102)
         self.assertEqual(bytes(memory), before)
 
 
@@ -358,8 +372,9 @@ class Loading(unittest.TestCase):
     def test_this_module_is_for_the_header(self):
         numbers = re.findall(r"NEWELSAGE_([A-Z_]+)(?: = | )(0x[0-9a-f]+|\d+)", HEADER.read_text())
         header = {name: int(number, 0) for name, number in numbers}
-        here = {"VERSION": newelsage.VERSION, "SIZE": newelsage.SIZE, **Status.__members__, **Tag.__members__}
-        not_made = {newelsage.Malformed: "MALFORMED", newelsage.StateTooShort: "STATE_TOO_SHORT"}
+        here = {"VERSION": newelsage.VERSION, "SIZE": newelsage.SIZE, "LONGEST_CARD": newelsage.LONGEST_CARD, **Status.__members__}
+        here.update((f"TAG_{name}", tag) for name, tag in Tag.__members__.items())
+        not_made = {newelsage.Malformed: "MALFORMED", newelsage.MemoryTooShort: "MEMORY_TOO_SHORT"}
         not_made[newelsage.NotALedger] = "NOT_A_LEDGER"
         here.update((not_made[kind], number) for number, kind in newelsage._NOT_MADE.items())
         self.assertEqual(here, header)

@@ -55,17 +55,17 @@ pub enum Refusal {
     NoRecord,
     /// 24: the buffer is too short for the card.
     BufferTooShort,
-    /// 257: the saved ledger has another length than a ledger of this library.
+    /// 102: the saved ledger has another length than a ledger of this library.
     WrongSize,
-    /// 258: the bytes do not begin as a ledger of this version does.
+    /// 103: the bytes do not begin as a ledger of this version does.
     NotALedger,
     /// The library answered what this crate does not know: another status, or for 0 other values
     /// than the call has.
     Unknown(u64),
 }
 
-const STATE_TOO_SHORT: u64 = 257;
-const NOT_A_LEDGER: u64 = 258;
+const MEMORY_TOO_SHORT: u64 = 102;
+const NOT_A_LEDGER: u64 = 103;
 
 impl Refusal {
     /// The refusal with this status, which is not 0, and these values.
@@ -98,7 +98,7 @@ impl Refusal {
             22 => Refusal::NoToken,
             23 => Refusal::NoRecord,
             24 => Refusal::BufferTooShort,
-            STATE_TOO_SHORT => Refusal::WrongSize,
+            MEMORY_TOO_SHORT => Refusal::WrongSize,
             NOT_A_LEDGER => Refusal::NotALedger,
             _ => Refusal::Unknown(status),
         }
@@ -131,7 +131,7 @@ impl Refusal {
             Refusal::NoToken => 22,
             Refusal::NoRecord => 23,
             Refusal::BufferTooShort => 24,
-            Refusal::WrongSize => STATE_TOO_SHORT,
+            Refusal::WrongSize => MEMORY_TOO_SHORT,
             Refusal::NotALedger => NOT_A_LEDGER,
             Refusal::Unknown(status) => status,
         }

@@ -8,9 +8,9 @@ use Rattle.directive.specs.declared.Subject.the-variants.{Person, Role}
 use Rattle.active.specs.declared.Active.{Active}
 use Rattle.emergency.specs.declared.Token.{Token}
 use Rattle.ledger.specs.declared.Ledger.{Ledger}
-use Rattle.ledger_stored.specs.Stored.{byteOf, subjectOf, roleNumber, subjectNumber, directiveOf, activeOf, storedActive, tokenOf, storedToken, ledgerOf, storedOf}
+use Rattle.ledger_stored.specs.Stored.{byteOf, subjectOf, kindNumber, subjectNumber, directiveOf, activeOf, storedActive, tokenOf, storedToken, ledgerOf, storedOf}
 
-subject-back : (s : Subject) → subjectOf (roleNumber s) (subjectNumber s) ≡ s
+subject-back : (s : Subject) → subjectOf (kindNumber s) (subjectNumber s) ≡ s
 unfolding subjectOf
 subject-back (Person n) = refl
 subject-back (Role n) = refl

@@ -26,11 +26,11 @@ abbrev pub byteOf : Bool → ℕ
 byteOf b = cond b 1 0
 
 unfoldable pub subjectOf : ℕ → ℕ → Subject
-subjectOf role number = cond (eqb role 0) (Person number) (Role number)
+subjectOf kind number = cond (eqb kind 0) (Person number) (Role number)
 
-abbrev pub roleNumber : Subject → ℕ
-roleNumber (Person n) = 0
-roleNumber (Role n) = 1
+abbrev pub kindNumber : Subject → ℕ
+kindNumber (Person n) = 0
+kindNumber (Role n) = 1
 
 abbrev pub subjectNumber : Subject → ℕ
 subjectNumber (Person n) = n
@@ -41,7 +41,7 @@ directiveOf t =
     record {
       number = t .number;
       permit = not (eqb (t .permit) 0);
-      subject = subjectOf (t .role) (t .subject);
+      subject = subjectOf (t .kind) (t .subject);
       «subject_origins» = t .«subject_origins»;
       «record» = t .«record»;
       reach = t .reach;
@@ -70,7 +70,7 @@ storedActive a =
       sensitivities = a .directive .sensitivities;
       purposes = a .directive .purposes;
       permit = byteOf (a .directive .permit);
-      role = roleNumber (a .directive .subject);
+      kind = kindNumber (a .directive .subject);
       «record» = a .directive .«record»;
       reach = a .directive .reach;
       kinds = a .directive .kinds;
@@ -104,7 +104,7 @@ storedOf l =
       stamp = theStamp;
       clock = l .clock;
       patient = l .patient;
-      «unused_2» = 0;
+      unused = 0;
       register = l .register;
       active = map storedActive (l .active .entries);
       «active_count» = l .active .count;

@@ -11,7 +11,7 @@ use register::Register;
 use sets::record_set::RecordSet;
 ghost use mathlib.Core.Path.{_≡_};
 ghost use mathlib.Core.List.{map};
-ghost use Rattle.ledger_stored.specs.Stored.{byteOf, subjectOf, roleNumber, subjectNumber, activeOf, storedActive, tokenOf, storedToken, ledgerOf, storedOf};
+ghost use Rattle.ledger_stored.specs.Stored.{byteOf, subjectOf, kindNumber, subjectNumber, activeOf, storedActive, tokenOf, storedToken, ledgerOf, storedOf};
 
 // What a stored ledger begins with: a name, and in the two lowest bytes the version of the layout.
 pub const STAMP: u64 = 0x4E6577656C730001;
@@ -27,7 +27,7 @@ pub struct StoredActive {
     permit: u8,
     unused_1: u8,
     // 1 for a role, 0 for a person
-    role: u16,
+    kind: u16,
     subject: u16,
     subject_origins: u16,
     record: u8,
@@ -60,7 +60,7 @@ pub struct StoredLedger {
     pub stamp: u64,
     clock: u32,
     patient: u16,
-    unused_2: u16,
+    unused: u16,
     register: Register,
     active: [StoredActive; 32],
     active_count: usize,
@@ -74,17 +74,17 @@ fn byte_of(b: bool) -> u8
     if b { 1 } else { 0 }
 }
 
-fn subject_of(role: u16, number: u16) -> Subject
-    ensures { λ s. ⌜ s ≡ subjectOf role number ⌝ }
+fn subject_of(kind: u16, number: u16) -> Subject
+    ensures { λ s. ⌜ s ≡ subjectOf kind number ⌝ }
 {
-    if role == 0 {
+    if kind == 0 {
         return Subject::Person(number);
     }
     Subject::Role(number)
 }
 
-fn role_number(s: Subject) -> u16
-    ensures { λ r. ⌜ r ≡ roleNumber s ⌝ }
+fn kind_number(s: Subject) -> u16
+    ensures { λ r. ⌜ r ≡ kindNumber s ⌝ }
 {
     match s {
         Subject::Person(_) => 0,
@@ -104,7 +104,7 @@ fn subject_number(s: Subject) -> u16
 fn active_of(t: StoredActive) -> Active
     ensures { λ a. ⌜ a ≡ activeOf t ⌝ }
 {
-    let subject = subject_of(t.role, t.subject);
+    let subject = subject_of(t.kind, t.subject);
     let d = Directive {
         number: t.number,
         permit: t.permit != 0,
@@ -139,7 +139,7 @@ fn stored_active(a: Active) -> StoredActive
         number: d.number,
         permit: byte_of(d.permit),
         unused_1: 0,
-        role: role_number(s),
+        kind: kind_number(s),
         subject: subject_number(s),
         subject_origins: d.subject_origins,
         record: d.record,
@@ -268,7 +268,7 @@ pub fn stored_of(l: Ledger) -> StoredLedger
         stamp: STAMP,
         clock: ledger::views::clock(l),
         patient: ledger::views::patient(l),
-        unused_2: 0,
+        unused: 0,
         register: register,
         active: active,
         active_count: list.count,

@@ -13,15 +13,16 @@ use Rattle.ledger_model.specs.Model.{Model}
 use Rattle.ledger_model.specs.Questions.{Outcome}
 use Rattle.replay_entries.specs.Entries.{Entry, malformed, Said, says, nothing, queryEntry, saidTo, bufferAfter}
 
--- Why a call was not made; every other status is 0 or the number of the question missed.
+-- Why a call was not made: numbers of a byte that no question has. Every other status is 0, the number of the question missed, or 22 for
+-- a place without a token.
 abbrev pub malformedStatus : ℕ
-malformedStatus = 256
+malformedStatus = 101
 
 abbrev pub tooShortStatus : ℕ
-tooShortStatus = 257
+tooShortStatus = 102
 
 abbrev pub notALedgerStatus : ℕ
-notALedgerStatus = 258
+notALedgerStatus = 103
 
 -- a status and the values that come with it
 pub record Told : Type 0 where
@@ -59,14 +60,14 @@ toldRead o = toldReading (o .answer) (o .model)
     toldReading (refused n vs) m = told n vs
 
 -- What may be asked of a ledger: what it holds, its token at a place, and what a replay asks.
-pub data Question : Type 0 where
-  counts : Question
-  token : ℕ → Question
-  entry : Entry → Question
+pub data Inquiry : Type 0 where
+  counts : Inquiry
+  token : ℕ → Inquiry
+  entry : Entry → Inquiry
 
 -- tag 0x00, no value; tag 0x01, place 1; any other tag is the replay's
-unfoldable pub questionOf : ℕ → List ℕ → Question
-questionOf tag v =
+unfoldable pub inquiryOf : ℕ → List ℕ → Inquiry
+inquiryOf tag v =
     pick (eqb tag 0x00) (pick (eqb (length v) 0) counts (entry malformed))
     (pick (eqb tag 0x01) (pick (eqb (length v) 1) (token (numberAt 0 1 v)) (entry malformed))
     (entry (queryEntry tag v)))
@@ -76,7 +77,7 @@ abbrev pub tokenNumbers : Token → List ℕ
 tokenNumbers t = t .number ∷ t .person ∷ t .states ∷ t .until ∷ []
 
 -- the model's answer; a place without a token is 22
-abbrev pub toldTo : Model → Question → List ℕ → Told
+abbrev pub toldTo : Model → Inquiry → List ℕ → Told
 toldTo m counts buffer =
     told 0 (m .patient ∷ m .clock ∷ length (m .register .records) ∷ length (m .active) ∷ length (m .tokens) ∷ [])
 toldTo m (token i) buffer =
@@ -84,7 +85,7 @@ toldTo m (token i) buffer =
 toldTo m (entry e) buffer = toldSaid (saidTo m e buffer)
 
 -- the lent buffer after it
-abbrev pub bufferTo : Model → Question → List ℕ → List ℕ
+abbrev pub bufferTo : Model → Inquiry → List ℕ → List ℕ
 bufferTo m counts buffer = buffer
 bufferTo m (token i) buffer = buffer
 bufferTo m (entry e) buffer = bufferAfter m e buffer

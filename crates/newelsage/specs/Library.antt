@@ -1,6 +1,7 @@
 -- What the library's functions leave in the caller's memory. Memory that is too short, or does not begin as a ledger does, is refused.
 -- Memory that the library made holds `storedOf l` for a ledger l that keeps the invariant: there each function's answer and
--- what it leaves are the reference model's. On any other memory a function ends, and its answer is free.
+-- what it leaves are the reference model's. On any other memory that begins so, a call and a question end, and what they tell is free, but
+-- they tell something: the status is returned, and stands with its values in the answer.
 use Prim.Native.Nat.{ℕ, _<_, _≤_}
 use mathlib.Core.Path.{_≡_}
 use mathlib.Core.Bool.{false}
@@ -14,7 +15,7 @@ use Rattle.ledger_stored.specs.declared.StoredLedger.{StoredLedger}
 use Rattle.ledger_stored.specs.Stored.{theStamp, theSize, storedOf}
 use Rattle.card.specs.Reading.{reading}
 use Rattle.replay_entries.specs.Entries.{Entry, callEntry, saidTo, afterEntry, changes}
-use Rattle.newelsage.specs.Answers.{tooShortStatus, notALedgerStatus, told, Answered, toldSaid, toldRead, Question, questionOf, toldTo, bufferTo}
+use Rattle.newelsage.specs.Answers.{tooShortStatus, notALedgerStatus, Told, told as said, Answered, toldSaid, toldRead, Inquiry, inquiryOf, toldTo, bufferTo}
 
 -- newelsage_empty: the empty ledger, which keeps the invariant.
 pub record Empties (t : StoredLedger) (size status : ℕ) (after : StoredLedger) : Type 0 where
@@ -33,7 +34,7 @@ pub record ReadIn (card : List ℕ) (status : ℕ) (after : StoredLedger) (answe
 
 -- newelsage_read
 pub record Reads (t : StoredLedger) (size : ℕ) (card : List ℕ) (status : ℕ) (after : StoredLedger) (answer : List ℕ) : Type 0 where
-  pub short : size < theSize → Answered status answer (told tooShortStatus []) × (after ≡ t)
+  pub short : size < theSize → Answered status answer (said tooShortStatus []) × (after ≡ t)
   pub whole : theSize ≤ size → ReadIn card status after answer
 
 -- A call on the ledger l, as a replay's entry has it: what is told, and the ledger after it; a call that is refused, and one that is
@@ -47,24 +48,28 @@ pub record CalledOn (l : Ledger) (e : Entry) (status : ℕ) (after : StoredLedge
   pub invariant : Invariant next
 
 pub record CalledIn (t : StoredLedger) (tag : ℕ) (v : List ℕ) (status : ℕ) (after : StoredLedger) (answer : List ℕ) : Type 0 where
-  pub other : eqb (t .stamp) theStamp ≡ false → Answered status answer (told notALedgerStatus []) × (after ≡ t)
+  pub some : Told
+  pub told : Answered status answer some
+  pub other : eqb (t .stamp) theStamp ≡ false → (some ≡ said notALedgerStatus []) × (after ≡ t)
   pub ledger : (l : Ledger) → t ≡ storedOf l → Invariant l → CalledOn l (callEntry tag v) status after answer
 
 -- newelsage_call
 pub record Calls (t : StoredLedger) (size tag : ℕ) (v : List ℕ) (status : ℕ) (after : StoredLedger) (answer : List ℕ) : Type 0 where
-  pub short : size < theSize → Answered status answer (told tooShortStatus []) × (after ≡ t)
+  pub short : size < theSize → Answered status answer (said tooShortStatus []) × (after ≡ t)
   pub whole : theSize ≤ size → CalledIn t tag v status after answer
 
 -- A question to the ledger l: what is told, and the lent buffer after it.
-pub record AskedOn (l : Ledger) (q : Question) (before : List ℕ) (status : ℕ) (after answer : List ℕ) : Type 0 where
+pub record AskedOn (l : Ledger) (q : Inquiry) (before : List ℕ) (status : ℕ) (after answer : List ℕ) : Type 0 where
   pub told : Answered status answer (toldTo (view l) q before)
   pub buffer : after ≡ bufferTo (view l) q before
 
 pub record AskedIn (t : StoredLedger) (tag : ℕ) (v before : List ℕ) (status : ℕ) (after answer : List ℕ) : Type 0 where
-  pub other : eqb (t .stamp) theStamp ≡ false → Answered status answer (told notALedgerStatus []) × (after ≡ before)
-  pub ledger : (l : Ledger) → t ≡ storedOf l → Invariant l → AskedOn l (questionOf tag v) before status after answer
+  pub some : Told
+  pub told : Answered status answer some
+  pub other : eqb (t .stamp) theStamp ≡ false → (some ≡ said notALedgerStatus []) × (after ≡ before)
+  pub ledger : (l : Ledger) → t ≡ storedOf l → Invariant l → AskedOn l (inquiryOf tag v) before status after answer
 
 -- newelsage_ask; the ledger's memory is lent to be read alone
 pub record Asks (t : StoredLedger) (size tag : ℕ) (v before : List ℕ) (status : ℕ) (after answer : List ℕ) : Type 0 where
-  pub short : size < theSize → Answered status answer (told tooShortStatus []) × (after ≡ before)
+  pub short : size < theSize → Answered status answer (said tooShortStatus []) × (after ≡ before)
   pub whole : theSize ≤ size → AskedIn t tag v before status after answer

@@ -14,7 +14,7 @@ ghost use Rattle.replay_entries.specs.Entries.{Said, lineOf, Shows};
 ghost use Rattle.newelsage.specs.Answers.{told, Answered, toldSaid, toldRead, counts, token, toldTo};
 
 // The call is none of the function's, or its value has not the length.
-pub const MALFORMED: u64 = 256;
+pub const MALFORMED: u64 = 101;
 
 // Brief's number for no live token.
 const NO_TOKEN: u64 = 22;

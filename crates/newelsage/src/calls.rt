@@ -1,16 +1,13 @@
 // The library's calls on a stored ledger by value.
 use crate::answer::MALFORMED;
-use ledger::Ledger;
 use ledger_stored::StoredLedger;
 ghost use mathlib.Core.Path.{_≡_};
 ghost use Rattle.ledger.specs.State.{emptyLedger};
-ghost use Rattle.ledger.specs.Invariant.{Invariant};
 ghost use Rattle.ledger_stored.specs.Stored.{storedOf};
-ghost use Rattle.newelsage.specs.Answers.{questionOf};
-ghost use Rattle.newelsage.specs.Library.{ReadIn, CalledIn, AskedOn, AskedIn};
+ghost use Rattle.newelsage.specs.Library.{ReadIn, CalledIn, AskedIn};
 
 // The memory does not begin as a ledger of this version does.
-const NOT_A_LEDGER: u64 = 258;
+const NOT_A_LEDGER: u64 = 103;
 
 // A status, and what is to stand in the caller's memory.
 pub struct Reply {
@@ -41,7 +38,7 @@ pub fn read(card: &[u8], answer: &mut [u64; 8]) -> Reply
 pub fn call(t: StoredLedger, tag: u8, v: &[u8], answer: &mut [u64; 8]) -> Reply
     ensures { λ r. ⌜ CalledIn t tag (now (v .entry)) (r .status) (r .ledger) (now (answer .exit)) ⌝ }
 {
-    if t.stamp != ledger_stored::STAMP {
+    if ledger_stored::STAMP != t.stamp {
         return Reply {
             status: crate::answer::refuse(answer, NOT_A_LEDGER),
             ledger: t,
@@ -51,17 +48,21 @@ pub fn call(t: StoredLedger, tag: u8, v: &[u8], answer: &mut [u64; 8]) -> Reply
     let a = r.answer;
     let l = r.ledger;
     let status = crate::answer::put_line(answer, replay_entries::line::line_of(a));
-    let after = ledger_stored::stored_of(l);
+    let next = ledger_stored::stored_of(l);
     Reply {
         status: status,
-        ledger: after,
+        ledger: next,
     }
 }
 
-// A question to a ledger: two of the library's own, and those of a replay.
-fn question(l: Ledger, tag: u8, v: &[u8], lent: &mut [u8], answer: &mut [u64; 8]) -> u64
-    ensures { λ r. ⌜ (Invariant l → AskedOn l (questionOf tag (now (v .entry))) (now (lent .entry)) r (now (lent .exit)) (now (answer .exit))) ⌝ }
+// A question to the ledger: two of the library's own, and those of a replay.
+pub fn ask(t: StoredLedger, tag: u8, v: &[u8], lent: &mut [u8], answer: &mut [u64; 8]) -> u64
+    ensures { λ r. ⌜ AskedIn t tag (now (v .entry)) (now (lent .entry)) r (now (lent .exit)) (now (answer .exit)) ⌝ }
 {
+    if t.stamp != ledger_stored::STAMP {
+        return crate::answer::refuse(answer, NOT_A_LEDGER);
+    }
+    let l = ledger_stored::ledger_of(t);
     if tag == 0x00 {
         if v.len() != 0 {
             return crate::answer::refuse(answer, MALFORMED);
@@ -76,13 +77,4 @@ fn question(l: Ledger, tag: u8, v: &[u8], lent: &mut [u8], answer: &mut [u64; 8]
     }
     let a = replay_entries::entry::run_query(l, tag, v, lent);
     crate::answer::put_line(answer, replay_entries::line::line_of(a))
-}
-
-pub fn ask(t: StoredLedger, tag: u8, v: &[u8], lent: &mut [u8], answer: &mut [u64; 8]) -> u64
-    ensures { λ r. ⌜ AskedIn t tag (now (v .entry)) (now (lent .entry)) r (now (lent .exit)) (now (answer .exit)) ⌝ }
-{
-    if t.stamp != ledger_stored::STAMP {
-        return crate::answer::refuse(answer, NOT_A_LEDGER);
-    }
-    question(ledger_stored::ledger_of(t), tag, v, lent, answer)
 }

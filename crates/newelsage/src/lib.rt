@@ -10,7 +10,7 @@ pub mod answer;
 pub mod calls;
 
 // The memory is shorter than a ledger.
-const TOO_SHORT: u64 = 257;
+const TOO_SHORT: u64 = 102;
 
 // How many bytes a ledger has.
 #[no_mangle]

@@ -11,13 +11,13 @@ subject-number-requires c κs = search needs
 byte-of-requires : tie.Need-byte-of-requires
 byte-of-requires c κs = search needs
 
-role-number-requires : tie.Need-role-number-requires
-role-number-requires c κs = search needs
+kind-number-requires : tie.Need-kind-number-requires
+kind-number-requires c κs = search needs
 
 returns : tie.Need-returns
 unfolding storedActive
-returns c = rw (c .subject-number .ensures, c .before .role-number .ensures, c .before .before .byte-of .ensures) refl
+returns c = rw (c .subject-number .ensures, c .before .kind-number .ensures, c .before .before .byte-of .ensures) refl
 
 pub stored-active-spec : {M : Type 1} → statement M
 stored-active-spec =
-    tie.close (tie.spec byte-of-requires role-number-requires subject-number-requires returns)
+    tie.close (tie.spec byte-of-requires kind-number-requires subject-number-requires returns)

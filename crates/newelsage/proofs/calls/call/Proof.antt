@@ -1,4 +1,5 @@
 -- `call`: the entry's promise, stored.
+use mathlib.Core.Path.{sym}
 use Rattle.newelsage.proofs.LibraryLaws.{not-called, called}
 use borrow.Author.Needs.{needs}
 use Rattle.newelsage.proofs.calls.call.Statement.{statement}
@@ -8,7 +9,7 @@ refuse-requires : tie.Need-refuse-requires
 refuse-requires c κs = search needs
 
 returns : tie.Need-returns
-returns c = not-called _ _ _ _ _ (c .before .before .if1 .taken) (c .refuse .ensures)
+returns c = not-called _ _ _ _ _ (λ e. c .before .before .if1 .taken (sym e)) (c .refuse .ensures)
 
 ledger-of-requires : tie.Need-ledger-of-requires
 ledger-of-requires c κs = search needs
@@ -30,7 +31,7 @@ returns-2 c =
     let line = c .before .before .line-of in
     let entry = c .before .before .before .before .before .run-call in
     let ledger = c .before .before .before .before .before .before .ledger-of in
-    called _ (ledger .result) _ _ (entry .result) (line .result) _ _ _ _ (c .before .before .before .before .before .before .before .if1 .left)
+    called _ (ledger .result) _ _ (entry .result) (line .result) _ _ _ _ (sym (c .before .before .before .before .before .before .before .if1 .left))
     (ledger .ensures) (entry .ensures) (line .ensures) (c .before .put-line .ensures) (c .stored-of .ensures)
 
 pub call-spec : {M : Type 1} → statement M
