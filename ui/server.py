@@ -28,7 +28,7 @@ DEFAULT_CHECKER = TOP / "checker" / "target" / "release" / "checker"
 DEFAULT_PORT = 8377
 
 INDEX = "index.html"
-PAGES = (INDEX, "style.css", "app.js", "words.js", "table.js", "draft.js", "views.js")
+PAGES = (INDEX, "style.css", "app.js", "words.js", "table.js", "draft.js", "views.js", "icon.svg")
 TYPES = {
     ".html": "text/html; charset=utf-8",
     ".css": "text/css; charset=utf-8",
@@ -39,11 +39,6 @@ TYPES = {
 JSON = TYPES[".json"]
 ENDPOINT = "/answer"
 
-# What browsers ask for by themselves: the card of the page's head.
-ICON = b"""<svg xmlns="http://www.w3.org/2000/svg" viewBox="0 0 24 24" fill="none" stroke="#0a5a7c" stroke-width="2">
-<rect x="2.5" y="5" width="19" height="14" rx="2.5" fill="#ffffff"/><path d="M6.5 12.3l2.2 2.2 4-4.6M15.5 10h3M15.5 14h3"/></svg>
-"""
-
 BODY_BYTES = 1 << 20
 LABEL_BYTES = 1 << 20
 WORKERS = 16
@@ -51,6 +46,8 @@ WORKERS = 16
 SECONDS = 10.0
 # A library call needs less than the stack that a thread gets here.
 STACK_BYTES = 8 << 20
+# Two names of one error since Python 3.10.
+TIMEOUTS = (TimeoutError, socket.timeout)
 
 HEADERS = {
     "Content-Security-Policy": "default-src 'none'; script-src 'self'; style-src 'self'; img-src 'self'; connect-src 'self'; "
@@ -97,10 +94,7 @@ def read_bytes(path, most):
 
 def read_pages(folder):
     """What a GET can name, with its type."""
-    if not (folder / INDEX).is_file():
-        raise Unusable(f"{folder / INDEX} is not there")
-    there = [name for name in PAGES if (folder / name).is_file()]
-    pages = {f"/{name}": (TYPES[Path(name).suffix], read_bytes(folder / name, -1)) for name in there}
+    pages = {f"/{name}": (TYPES[Path(name).suffix], read_bytes(folder / name, -1)) for name in PAGES}
     pages["/"] = pages.pop(f"/{INDEX}")
     return pages
 
@@ -180,6 +174,8 @@ class Handler(http.server.BaseHTTPRequestHandler):
             self.reply(200, kind, data)
 
     def page(self):
+        if "Origin" in self.headers:
+            self.check_origin()
         if self.path == ENDPOINT:
             raise Refused(405, "this is asked by POST", Allow="POST")
         if self.path not in self.server.pages:
@@ -204,7 +200,7 @@ class Handler(http.server.BaseHTTPRequestHandler):
             raise Refused(403, "another site asks")
 
     def check_origin(self):
-        if self.only("Origin") not in {f"http://{host}" for host in self.server.hosts}:
+        if self.only("Origin") != f"http://{self.only('Host')}":
             raise Refused(403, "another site asks")
 
     def only(self, name):
@@ -223,7 +219,7 @@ class Handler(http.server.BaseHTTPRequestHandler):
         length = self.length()
         try:
             data = self.rfile.read(length)
-        except TimeoutError as error:
+        except TIMEOUTS as error:
             raise Refused(408, "the body does not come in time") from error
         if len(data) != length:
             raise Refused(400, "the body is shorter than its length")
@@ -292,7 +288,7 @@ class Screen(http.server.ThreadingHTTPServer):
     request_queue_size = 64
 
     def __init__(self, port, pages, opened, gateway, seconds=SECONDS):
-        self.pages = {**pages, "/favicon.ico": (TYPES[".svg"], ICON), "/opened": (JSON, encoded(opened))}
+        self.pages = {**pages, "/opened": (JSON, encoded(opened))}
         self.gateway = gateway
         self.seconds = seconds
         self.workers = threading.Semaphore(WORKERS)
@@ -324,7 +320,7 @@ class Screen(http.server.ThreadingHTTPServer):
 
     def handle_error(self, request, client_address):
         error = sys.exc_info()[1]
-        if not isinstance(error, (ConnectionError, TimeoutError)):
+        if not isinstance(error, (ConnectionError, *TIMEOUTS)):
             warn(f"a connection fails: {type(error).__name__}")
 
 

@@ -124,8 +124,11 @@ class OnThePage(unittest.TestCase):
         browser.wait(f"an answer on the page {view or ''}", lambda: self.is_ready(view))
 
     def is_ready(self, view):
-        ready, shown = browser.script("const { ready, view } = document.body.dataset; return [ready === 'true', view]")
-        if shown == "error" and not self.is_busy():
+        ready, shown, busy = browser.script(
+            "const { ready, view } = document.body.dataset;"
+            "return [ready === 'true', view, document.getElementById('main').getAttribute('aria-busy') === 'true']"
+        )
+        if shown == "error" and not busy:
             self.fail(f"the page shows an error: {self.text('#error-words')}")
         return ready and view in (None, shown)
 

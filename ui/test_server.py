@@ -10,6 +10,7 @@ import contextlib
 import http.client
 import json
 import os
+import re
 import signal
 import socket
 import subprocess
@@ -755,7 +756,7 @@ class WithServer(WithGateway):
 
 class Serving(WithServer):
     def test_pages(self):
-        for path, (kind, data) in {**PAGES, "/favicon.ico": ("image/svg+xml", server.ICON)}.items():
+        for path, (kind, data) in PAGES.items():
             reply = self.ask("GET", path)
             self.assertEqual((reply[0], reply[1]["Content-Type"], reply[2]), (200, kind, data))
             self.guarded(reply)
@@ -796,6 +797,7 @@ class Serving(WithServer):
             sent = {**self.sent, "Origin": f"http://{name}:{self.port}", "Sec-Fetch-Site": "same-origin"}
             body = json.dumps(request()).encode()
             self.assertEqual(self.ask("POST", "/answer", body, sent, f"{name}:{self.port}")[0], 200)
+            self.assertEqual(self.ask("GET", "/opened", headers={"Origin": sent["Origin"]}, host=f"{name}:{self.port}")[0], 200)
 
     def test_a_type_with_parameters(self):
         for kind in ("application/json; charset=utf-8", "application/json;charset=UTF-8", "Application/JSON"):
@@ -851,10 +853,14 @@ class Refusing(WithServer):
             f"http://evil.example:{self.port}",
             "http://127.0.0.1",
             f"https://127.0.0.1:{self.port}",
+            f"http://localhost:{self.port}",
             f"{self.origin}/",
             [self.origin, self.origin],
         ):
             self.refused(self.post(Origin=origin), 403)
+            if origin is not None:
+                self.refused(self.ask("GET", "/", headers={"Origin": origin}), 403)
+                self.refused(self.ask("GET", "/opened", headers={"Origin": origin}), 403)
 
     def test_another_site(self):
         for site in ("cross-site", "same-site", "", ["same-origin", "cross-site"]):
@@ -1021,18 +1027,29 @@ class Opening(unittest.TestCase):
         self.assertEqual(len(server.read_opened(self.card)["card"]), 2 * 65535)
 
     def test_the_pages(self):
-        with self.assertRaises(server.Unusable):
-            server.read_pages(self.folder)
-        for name in ("index.html", "app.js", "style.css", "other.js"):
+        for name in (*server.PAGES, "other.js"):
             (self.folder / name).write_text(name)
-        self.assertEqual(
-            server.read_pages(self.folder),
-            {
-                "/": ("text/html; charset=utf-8", b"index.html"),
-                "/app.js": ("text/javascript; charset=utf-8", b"app.js"),
-                "/style.css": ("text/css; charset=utf-8", b"style.css"),
-            },
-        )
+        pages = server.read_pages(self.folder)
+        self.assertEqual(pages.keys(), {"/", *(f"/{name}" for name in server.PAGES if name != "index.html")})
+        self.assertEqual(pages["/"], ("text/html; charset=utf-8", b"index.html"))
+        self.assertEqual(pages["/app.js"], ("text/javascript; charset=utf-8", b"app.js"))
+        self.assertEqual(pages["/style.css"], ("text/css; charset=utf-8", b"style.css"))
+        self.assertEqual(pages["/icon.svg"], ("image/svg+xml", b"icon.svg"))
+
+    def test_pages_that_are_not_there(self):
+        for missing in server.PAGES:
+            for name in server.PAGES:
+                (self.folder / name).write_text(name)
+            (self.folder / missing).unlink()
+            with self.assertRaisesRegex(server.Unusable, missing):
+                server.read_pages(self.folder)
+
+    def test_the_page_names_what_is_served(self):
+        pages = server.read_pages(TOP / "ui")
+        html = pages["/"][1].decode()
+        named = re.findall('(?:href|src)="([^"#]+)"', html)
+        self.assertEqual(sorted(named), ["app.js", "icon.svg", "style.css"])
+        self.assertLessEqual({f"/{name}" for name in named}, pages.keys())
 
     def test_the_sample_and_its_labels(self):
         opened = server.read_opened(TOP / "samples" / "sample.card")

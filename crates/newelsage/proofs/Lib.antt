@@ -1,3 +1,4 @@
 pub mod AnswerLaws
 pub mod LibraryLaws
+pub mod ListLaws
 pub mod WalkLaws
