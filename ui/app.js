@@ -30,6 +30,7 @@ const state = {
   labels: checkedLabels(null),
   serial: 0, // goes up with each card or names file
   calls: [], // { op, tag, value } and what the call says
+  saved: [], // those of the last file that was saved
 
   view: 'access',
   origin: null,
@@ -62,6 +63,7 @@ let sequence = 0;
 let timer = 0;
 let underWay = null;
 let ready = false;
+let calling = false; // the answer that is awaited is that of a call
 let afterwards = null;
 
 function setReady(value) {
@@ -201,6 +203,7 @@ function show(question, answer) {
   };
   repaint();
   setReady(true);
+  calling = false;
   const then = afterwards;
   afterwards = null;
   if (then) then();
@@ -209,11 +212,11 @@ function show(question, answer) {
 // An error takes away what was shown, so that it never looks like an answer.
 function fail(words) {
   shown = null;
+  calling = false;
   afterwards = null;
   document.body.dataset.view = 'error';
   document.title = 'No answer – Consent card';
-  byId('tabs-nav').hidden = true;
-  refill(byId('facts'), fact('Card', 'Not shown'));
+  clearFrame();
   paintError(screen, words);
   byId('main').setAttribute('aria-busy', 'false');
 }
@@ -247,7 +250,7 @@ function hasCounts(object, names) {
 function checkRefusedCard({ length, edition, patient, values, fault }) {
   need(isCount(length) && isNullOr(edition, isCount) && isNullOr(patient, isCount) && isListOf(values, isCount), 'the refused card');
   need(fault === null || (hasCounts(fault, ['field', 'offset', 'end']) && isNullOr(fault.tag, isCount) && isNullOr(fault.byte, isCount)
-    && typeof fault.words === 'string' && fault.offset <= fault.end), 'the place of the fault');
+    && isNullOr(fault.words, words => typeof words === 'string') && fault.offset <= fault.end), 'the place of the fault');
 }
 
 const RECORD_PARTS = ['parent', 'author', 'origins', 'sensitivities', 'type', 'labels'];
@@ -336,27 +339,43 @@ function checkAnswer(answer, question) {
 
 // ---------- Calls ----------
 
-function call(op, tag, value, said) {
+// Whether a step can be made. While the answer to one is awaited there is no other: a double click would make it twice.
+function beginStep() {
+  if (calling) {
+    say('The gateway is still answering. Try again in a moment.');
+    return false;
+  }
+  calling = true;
   note('');
+  return true;
+}
+
+// The index of the call, or null where none is made.
+function call(op, tag, value, said) {
+  if (!beginStep()) return null;
   state.calls.push({ op, tag, value, ...said });
   return state.calls.length - 1;
 }
 
 function commit(draft) {
-  state.notice = call('commit', COMMIT, encodeDraft(draft), { draft });
+  const index = call('commit', COMMIT, encodeDraft(draft), { draft });
+  if (index === null) return;
+  state.notice = index;
   state.draft = null;
   state.tried = false;
   go('directives');
 }
 
 function revoke(number) {
-  state.notice = call('revoke', REVOKE, hex(number, 2), { number });
+  const index = call('revoke', REVOKE, hex(number, 2), { number });
+  if (index === null) return;
+  state.notice = index;
   changed({ then: () => say(`Directive ${number} is revoked.`) });
 }
 
 // Revokes what stands against the draft, which stays open.
 function revokeFirst(number) {
-  call('revoke', REVOKE, hex(number, 2), { number });
+  if (state.draft === null || call('revoke', REVOKE, hex(number, 2), { number }) === null) return;
   state.tried = false;
   changed({
     then: () => {
@@ -369,6 +388,7 @@ function revokeFirst(number) {
 function advance(wanted) {
   const minute = Math.min(wanted, LAST_MINUTE);
   const index = call('advance', ADVANCE, hex(minute, 4), { minute });
+  if (index === null) return;
   changed({
     then: () => {
       const { status, values } = shown.callAnswers[index];
@@ -381,6 +401,7 @@ function advance(wanted) {
 function issue(token) {
   const value = hex(token.number, 2) + hex(token.person, 2) + hex(token.states, 1) + hex(token.length, 4);
   const index = call('issue', ISSUE, value, token);
+  if (index === null) return;
   state.issued = index;
   changed({
     then: () => {
@@ -397,7 +418,7 @@ function issue(token) {
 }
 
 function undo() {
-  note('');
+  if (!beginStep()) return;
   state.calls.pop();
   Object.assign(state, { notice: null, issued: null });
   changed({ then: () => say('The last step is undone.') });
@@ -410,6 +431,7 @@ function showKind(kind) {
 }
 
 function applyWay(patch) {
+  if (state.draft === null) return;
   Object.assign(state.draft, patch);
   state.tried = false;
   state.draftSerial += 1;
@@ -436,12 +458,19 @@ function note(text) {
 
 function takeCard(card, name, labels) {
   Object.assign(state, {
-    card, name, labels: checkedLabels(labels), serial: state.serial + 1, calls: [],
+    card, name, labels: checkedLabels(labels), serial: state.serial + 1, calls: [], saved: [],
     origin: null, purpose: 0, people: null, added: [], roles: new Map(),
     sel: null, pick: null, folded: new Set(), only: false,
     draft: null, tried: false, notice: null, token: null, issued: null,
   });
   latest = null;
+  shown = null;
+}
+
+// Whether there are steps that no saved file has.
+function hasUnsavedSteps() {
+  const { calls, saved } = state;
+  return calls.length > 0 && (calls.length !== saved.length || calls.some((one, k) => one !== saved[k]));
 }
 
 async function bytesOf(file, most, what) {
@@ -462,8 +491,37 @@ async function openCard(file) {
   note('');
   const bytes = await bytesOf(file, LONGEST_CARD, 'a card');
   if (bytes === null) return;
-  takeCard(Array.from(bytes, byte => hex(byte, 1)).join(''), file.name, null);
-  go('access');
+  const open = () => {
+    takeCard(Array.from(bytes, byte => hex(byte, 1)).join(''), file.name, null);
+    clearFrame();
+    refill(byId('main'), h('p', { class: 'soft' }, 'Opening the card.'));
+    go('access');
+  };
+  if (hasUnsavedSteps()) askFirst(file.name, open);
+  else open();
+}
+
+// Asks before the steps of this visit are dropped.
+function askFirst(name, open) {
+  const choose = then => () => {
+    closeQuestion();
+    then();
+  };
+  const steps = counted(state.calls.length, 'step');
+  closePops(null);
+  refill(byId('ask-first'), h('div', { class: 'summary' }, icon('alert'), h('div', {},
+    h('h2', { id: 'ask-first-h', tabindex: '-1' }, `Open ${name} without saving?`),
+    h('p', {}, `What you did in this visit (${steps}) is not saved and would be lost. To keep it, save the card first.`),
+    h('div', { class: 'rowbtns' },
+      button('open-stay', 'Stay with this card', null, choose(() => focusOn(null)), 'primary'),
+      button('open-anyway', 'Open it without saving', null, choose(open))))));
+  byId('ask-first').hidden = false;
+  byId('ask-first-h').focus();
+}
+
+function closeQuestion() {
+  byId('ask-first').hidden = true;
+  refill(byId('ask-first'));
 }
 
 async function openNames(file) {
@@ -504,14 +562,19 @@ function download(ending, digits) {
 }
 
 function saveCard() {
-  if (ready) download('card', shown.written);
-  else say('The gateway is still answering. Try again in a moment.');
+  if (!ready) {
+    say('The gateway is still answering. Try again in a moment.');
+    return;
+  }
+  download('card', shown.written);
+  state.saved = [...state.calls];
 }
 
 // The replay: the card as it was opened, then each call.
 function saveReplay() {
   const calls = state.calls.map(({ tag, value }) => hex(tag, 1) + hex(value.length / 2, 2) + value);
   download('replay', hex(state.card.length / 2, 2) + state.card + calls.join(''));
+  state.saved = [...state.calls];
 }
 
 // ---------- The frame ----------
@@ -529,6 +592,11 @@ const screen = {
 
 function fact(term, text, small) {
   return h('div', {}, h('dt', {}, term), h('dd', {}, text, ' ', small && h('small', {}, small)));
+}
+
+function clearFrame() {
+  byId('tabs-nav').hidden = true;
+  refill(byId('facts'), fact('Card', 'Not shown'));
 }
 
 function facts({ card, ledger }) {
@@ -684,8 +752,9 @@ function closePops(except) {
 
 function listen() {
   window.addEventListener('hashchange', route);
+  window.addEventListener('beforeunload', event => { if (hasUnsavedSteps()) event.preventDefault(); });
   narrow.addEventListener('change', repaint);
-  phone.addEventListener('change', () => { if (shown !== null) changed(); });
+  phone.addEventListener('change', () => { if (shown !== null) changed({ then: afterwards }); });
   document.querySelectorAll('input[name="theme"]').forEach(input => input.addEventListener('change', () => chooseTheme(input.value)));
   byId('print').addEventListener('click', () => window.print());
   byId('skip').addEventListener('click', event => {

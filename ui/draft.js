@@ -230,11 +230,12 @@ function limitsLine(d) {
 }
 
 export function draftForm(screen) {
-  const { state } = screen;
-  const d = state.draft;
+  const { state, shown } = screen;
+  const d = state.draft || { ...shown.draft };
   const title = h('span', {}, `Directive ${d.number}`);
   const limits = h('span', { class: 'hint', id: 'limits' }, limitsLine(d));
   const change = patch => {
+    if (state.draft !== d) return;
     if (patch.kind !== undefined && patch.kind !== d.kind) screen.showKind(patch.kind);
     Object.assign(d, patch);
     if (patch.subject !== undefined) state.pick = subjectColumn(d);
@@ -256,7 +257,7 @@ export function draftForm(screen) {
       dateRows(d, change),
       h('details', { class: 'more', id: 'limits-box' },
         h('summary', {}, h('span', {}, 'Limits'), ' ', limits),
-        LIMIT_GROUPS.map(group => limitGroup(group, screen.shown.ledger, d, change)))),
+        LIMIT_GROUPS.map(group => limitGroup(group, shown.ledger, d, change)))),
   ];
 }
 
@@ -302,7 +303,10 @@ export function paintSign(screen) {
   const refused = verdict.status !== 0;
   refill(byId('signbar'),
     refused && blockedLine(verdict),
-    h('p', { class: 'inwords', id: 'inwords' }, h('span', { class: 'over' }, 'You would sign'), capital(directiveWords(draft))),
+    h('p', { class: 'sign-head' },
+      h('span', { class: 'over' }, 'You would sign'), ' ',
+      !refused && h('span', { class: 'sign-count', id: 'sign-count' }, changeHead(screen.shown))),
+    h('p', { class: 'inwords', id: 'inwords' }, capital(directiveWords(draft))),
     draft.effect === DENY && draft.kind === ROLE && h('p', { class: 'soft' }, 'You, and whoever wrote a record, can still read it.'),
     h('div', { class: 'sign-act' },
       button('sign', 'Sign this directive', 'pen', () => sign(screen), `primary${refused ? ' blocked' : ''}`),
@@ -313,12 +317,26 @@ export function paintSign(screen) {
 
 // ---------- What would change ----------
 
+// The columns that the draft changes, that of its subject first and the others by their count, and the columns that it does not.
+function changedColumns({ draft, verdict, columns }) {
+  const counts = columns.map((column, k) => ({ ...column, changes: verdict.columns[k].status === 0 ? verdict.columns[k].changes : [] }));
+  const changed = counts.filter(column => column.changes.length).sort((a, b) => b.changes.length - a.changes.length);
+  const lead = changed.find(column => column.id === subjectColumn(draft)) || changed[0];
+  return { lead, others: changed.filter(column => column !== lead), same: counts.filter(column => !column.changes.length) };
+}
+
+// What the draft changes, in a line.
+function changeHead(shown) {
+  const { lead } = changedColumns(shown);
+  if (lead) return `${counted(lead.changes.length, 'record changes', 'records change')} for ${lead.many}`;
+  return shown.draft.from > shown.ledger.clock ? 'Nothing changes yet' : 'Nothing changes for the people shown';
+}
+
 function nothingChanges(screen) {
   const { draft, ledger, origin: place, purpose: reason } = screen.shown;
-  const later = draft.from > ledger.clock;
   return h('div', { class: 'summary none', 'data-changes': '0' }, icon('clock'), h('div', {},
-    h('p', { class: 'sum-head' }, later ? 'Nothing changes yet' : 'Nothing changes for the people shown'),
-    h('p', {}, later
+    h('p', { class: 'sum-head' }, changeHead(screen.shown)),
+    h('p', {}, draft.from > ledger.clock
       ? `This directive starts at ${when(draft.from)}.`
       : `Not now, when they ask from ${origin(place)} for ${purpose(reason)}. Try another place or reason above.`)));
 }
@@ -336,16 +354,12 @@ function changeWords(lead, others, same, draft) {
 }
 
 function changeSummary(screen) {
-  const { draft, verdict, columns } = screen.shown;
-  const counts = columns.map((column, k) => ({ ...column, changes: verdict.columns[k].status === 0 ? verdict.columns[k].changes : [] }));
-  const changed = counts.filter(column => column.changes.length).sort((a, b) => b.changes.length - a.changes.length);
-  if (!changed.length) return nothingChanges(screen);
-  const lead = changed.find(column => column.id === subjectColumn(draft)) || changed[0];
-  const others = changed.filter(column => column !== lead);
-  const same = counts.filter(column => !column.changes.length);
-  const size = lead.changes.length;
-  return h('div', { class: 'summary', 'data-changes': String(size) }, icon(draft.effect === PERMIT ? 'open' : 'closed'), h('div', {},
-    h('p', { class: 'sum-head' }, `${counted(size, 'record changes', 'records change')} for ${lead.many}`),
+  const { draft } = screen.shown;
+  const { lead, others, same } = changedColumns(screen.shown);
+  if (!lead) return nothingChanges(screen);
+  const size = String(lead.changes.length);
+  return h('div', { class: 'summary', 'data-changes': size }, icon(draft.effect === PERMIT ? 'open' : 'closed'), h('div', {},
+    h('p', { class: 'sum-head' }, changeHead(screen.shown)),
     h('p', {}, changeWords(lead, others, same, draft))));
 }
 

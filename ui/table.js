@@ -3,7 +3,7 @@
 import { draftForm, draftSummary, paintSign, subjectColumn } from './draft.js';
 import {
   DENY, PERMIT, PERSON, ROLE, answerMark, answerWord, button, byId, capital, cardLine, childrenOf, countInside, counted,
-  directiveOf, directiveWords, effectMark, field, h, has, icon, linkButton, listed, members, namedMembers, namedPersons,
+  defaultCause, directiveOf, directiveWords, effectMark, field, h, has, icon, linkButton, listed, members, namedMembers, namedPersons,
   numberField, origin, person, purpose, quoted, range, reasonWords, record, recordsAbove, refill, refillFor, role, say, select,
   sensitivity, shortReason, spoken, treeOrder, type, usualRole, when, whoseRecords,
 } from './words.js';
@@ -269,11 +269,12 @@ function effectName(effect) {
   return effect === PERMIT ? 'permit' : 'deny';
 }
 
-// Where the request that a refusal gives as an example stands in the table.
-function isClash({ draft, verdict }, column, i) {
+// Where the request that a refusal gives as an example stands in the table, if the table is about its place, reason and role.
+function isClash({ draft, verdict, origin: place, purpose: reason }, column, i) {
   const request = draft !== null && verdict.status === 13 ? verdict.request : null;
-  if (!request || request.record !== i) return false;
-  return request.any_person ? column.group === 'roles' && column.role === request.role : column.person === request.person;
+  if (!request || request.record !== i || request.origin !== place || request.purpose !== reason) return false;
+  const who = request.any_person ? column.group === 'roles' : column.person === request.person;
+  return who && column.role === request.role;
 }
 
 function cellContent(shown, cell) {
@@ -314,7 +315,7 @@ function cellButton(screen, k, i, stop) {
     'data-c': column.id, 'data-r': String(i), ...cellData(cell), 'aria-pressed': String(isAt(state.sel)), tabindex: isAt(stop) ? '0' : '-1',
     onclick: () => { if (cell !== null) chooseCell(screen, column, i); },
   },
-  cellContent(shown, cell), clashes && h('span', { class: 'why clashword' }, 'clash'), spoken('. Show the reason.'));
+  cellContent(shown, cell), clashes && h('span', { class: 'why clashword' }, 'clash'), cell !== null && spoken('. Show the reason.'));
 }
 
 function foldButton(screen, i, folded) {
@@ -430,8 +431,10 @@ function moveInTable(event) {
     const next = rows[y].cells[x].querySelector('.cell, .twist');
     if (!next || !next.offsetParent) continue;
     event.preventDefault();
-    event.currentTarget.querySelectorAll('.cell[tabindex="0"]').forEach(cell => { cell.tabIndex = -1; });
-    if (next.matches('.cell')) next.tabIndex = 0;
+    if (next.matches('.cell')) {
+      event.currentTarget.querySelectorAll('.cell[tabindex="0"]').forEach(cell => { cell.tabIndex = -1; });
+      next.tabIndex = 0;
+    }
     next.focus();
     return;
   }
@@ -457,11 +460,7 @@ function chosenAnswer({ state, shown }) {
 
 function steps(decision, asked, ledger) {
   const { basis, effect } = decision;
-  const place = origin(asked.origin);
-  const byDefault = () => {
-    if (effect === PERMIT) return `Open: ${place} holds the record and the reason is ${purpose(0)}.`;
-    return asked.purpose !== 0 ? `Closed: the reason is not ${purpose(0)}.` : `Closed: ${place} does not hold it.`;
-  };
+  const byDefault = () => `${[answerWord(effect), defaultCause(decision, asked)].filter(Boolean).join(': ')}.`;
   const author = person(ledger.records[asked.record].author);
   const none = ledger.directives.length ? 'No' : 'No, there are none.';
   return [

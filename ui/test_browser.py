@@ -228,8 +228,12 @@ class OnThePage(unittest.TestCase):
         with self.pop_up("open-open"):
             browser.find(f"#{name}").type(str(path))
 
-    def open_card(self, name, data):
+    def open_card(self, name, data, unsaved=False):
+        """Opens another card; where there are unsaved steps, the page asks first."""
         self.choose_file("card-file", file_with(name, data))
+        if unsaved:
+            self.wait_for("#ask-first", f"Open {name} without saving?")
+            self.click("#open-anyway")
         self.wait_for("#foot-card", name)
         self.ready()
 
@@ -489,8 +493,10 @@ class Cases(OnThePage):
         self.move_clock(1029)
         self.assertEqual(self.text("[data-token='9'] .left"), "1 minute left")
         self.assertEqual(self.texts("[data-token='9'] .disc .rname"), ["Discharge letter"])
+        self.assertFalse(browser.has("#ended"))
         self.move_clock(1030)
         self.assertFalse(browser.has("[data-token]"))
+        self.assertEqual(self.text("#ended"), "Emergency access has ended 1 emergency access ended when the clock moved.")
         self.assertIn("Nobody has emergency access now", self.text("#live"))
         self.go("directives")
         self.assertIn("0 directives and 1 emergency access ended.", self.history()[-1])
@@ -608,6 +614,7 @@ class Signing(OnThePage):
         heads = [re.findall("[0-9]+ changes?", words) for words in self.texts("#access th.c-who")]
         self.assertEqual(heads, [[], ["2 changes"], ["2 changes"], [], ["1 change"], [], ["2 changes"]])
         self.assertEqual(self.text("#summary .sum-head"), "2 records change for doctors")
+        self.assertEqual(self.text("#sign-count"), "2 records change for doctors")
         self.assertIn("They could no longer read “Discharge letter” or “HIV test”.", self.text("#summary"))
         self.click('.cell[data-c="r1"][data-r="2"]')
         reason = self.text("#reason")
@@ -750,6 +757,19 @@ class Files(OnThePage):
         self.assertIn("Field 7, a directive (tag 0x04)", self.text("#fault"))
         self.no_answer_is_shown()
 
+    def test_steps_that_are_not_saved(self):
+        self.sign_a()
+        self.choose_file("card-file", file_with("nameless.card", SAMPLE))
+        self.wait_for("#ask-first", "What you did in this visit (1 step) is not saved")
+        self.assertEqual(browser.script("return document.activeElement.id"), "ask-first-h")
+        self.click("#open-stay")
+        self.assertEqual(self.texts("#ask-first"), [])
+        self.assertIn("sample.card", self.text("#foot-card"))
+        self.assertEqual(self.says("r1", 1), BY_A)
+        self.open_card("nameless.card", SAMPLE, unsaved=True)
+        self.assertEqual(self.says("r1", 1), OPEN)
+        self.assertEqual(self.texts("#ask-first"), [])
+
     def test_a_file_that_is_too_large(self):
         self.choose_file("card-file", file_with("large.card", bytes(65536)))
         self.wait_for("#note", "large.card is too large to be a card")
@@ -859,6 +879,85 @@ class Failures(OnThePage):
         self.assertIn("Content Security Policy", browser.log()[0])
 
 
+class Waiting(OnThePage):
+    """What is done while an answer is awaited."""
+
+    def delay_answers(self, milliseconds):
+        """From now on answers come so much later."""
+        browser.script(
+            """window.promptly ??= window.fetch;
+            window.fetch = async (...asked) => {
+              await new Promise(done => setTimeout(done, arguments[0]));
+              return window.promptly(...asked);
+            };""",
+            milliseconds,
+        )
+
+    def click_twice(self, name):
+        browser.script("const button = document.getElementById(arguments[0]); button.click(); button.click()", name)
+
+    def resize_twice(self):
+        """Makes the page narrow and wide again, which paints it anew; the answer is still awaited."""
+        for size in (TABLET, PHONE, LAPTOP):
+            browser.resize(*size)
+            browser.script("return new Promise(done => requestAnimationFrame(() => requestAnimationFrame(done)))")
+
+    def test_a_second_click_makes_no_second_call(self):
+        self.sign_a()
+        self.go("directives")
+        self.delay_answers(300)
+        for name, steps in (("revoke-1", 3), ("undo", 2)):
+            self.click_twice(name)
+            self.ready("directives")
+            self.assertEqual(len(self.history()), steps)
+        self.go("urgent")
+        self.tick("t-state-0")
+        self.ready("urgent")
+        self.click_twice("t-issue")
+        self.ready("urgent")
+        self.assertEqual(len(browser.all("[data-token]")), 1)
+        self.click_twice("one-minute")
+        self.ready("urgent")
+        self.assertEqual(self.text(".token .left"), "29 minutes left")
+
+    def repainted(self, name, view):
+        """Clicks on a button, whose answer comes late, and has the page painted anew meanwhile."""
+        self.delay_answers(800)
+        self.click(f"#{name}")
+        self.resize_twice()
+        self.ready(view)
+        self.delay_answers(0)
+
+    def test_the_page_is_painted_anew(self):
+        self.write(**FORM_A)
+        self.repainted("sign", "directives")
+        self.assertEqual(len(self.history()), 2)
+        self.go("urgent")
+        self.repainted("t-issue", "urgent")
+        self.assertIn("(Question 18)", self.text("#tok-err"))
+        self.go("access")
+        self.click("#write")
+        self.ready("write")
+        self.repainted("discard", "access")
+
+    # How much is seen of what is shown, and whether the words over it are.
+    LOOKS = """
+    const main = document.getElementById('main');
+    return [getComputedStyle(main.firstElementChild).opacity, getComputedStyle(main, '::after').visibility];
+    """
+    ASK = "const why = document.getElementById('ask-p'); why.value = arguments[0]; why.dispatchEvent(new Event('change'));"
+
+    def test_the_page_says_that_it_waits(self):
+        self.addCleanup(browser.devtools, "Emulation.setEmulatedMedia", features=[])
+        for motion, reason in (("reduce", "1"), ("no-preference", "0")):
+            browser.devtools("Emulation.setEmulatedMedia", features=[{"name": "prefers-reduced-motion", "value": motion}])
+            self.delay_answers(1500)
+            self.assertEqual(browser.script(self.ASK + self.LOOKS, reason), ["1", "hidden"])
+            browser.wait("the words", lambda: browser.script(self.LOOKS) == ["0.55", "visible"])
+            self.ready("access")
+
+
+
 # The element with the focus, and whether it is in sight: it, or its label where it is drawn by that, lies over all else at its middle.
 FOCUSED = """
 const element = document.activeElement;
@@ -937,6 +1036,13 @@ class Keyboard(OnThePage):
         browser.keys(TAB, held=SHIFT)
         self.assertEqual(self.cell(), ("r0", "1"))
 
+    def test_a_folding_button_leaves_the_tab_stop(self):
+        self.open_card("demo.card", (TOP / "samples" / "demo.card").read_bytes())
+        browser.script("document.querySelector('.twist').closest('tr').querySelector('.cell').focus()")
+        browser.keys(LEFT)
+        self.assertRegex(self.focused()["name"], "^fold-")
+        self.assertEqual(len(browser.all("#access .cell[tabindex='0']")), 1)
+
     def test_a_directive_by_keyboard_alone(self):
         self.tab_to("write")
         browser.keys(ENTER)
@@ -1003,7 +1109,7 @@ class Looks(OnThePage):
         self.click("#t-issue")
         self.ready("urgent")
         yield "emergency"
-        self.open_card("damaged.card", DAMAGED)
+        self.open_card("damaged.card", DAMAGED, unsaved=True)
         yield "bad card"
         browser.find("#bad-open").type(str(TOP / "samples" / "demo.card"))
         self.ready("access")
@@ -1013,12 +1119,17 @@ class Looks(OnThePage):
         for state in self.states():
             self.check_widths(state)
 
+    def ground(self):
+        """The colour of the page, once no colour is on its way to another."""
+        browser.script("return Promise.allSettled(document.getAnimations().map(one => one.finished)).then(() => null)")
+        return browser.script("return getComputedStyle(document.body).backgroundColor")
+
     def test_colours(self):
         for theme, ground in (("light", LIGHT_GROUND), ("dark", DARK_GROUND)):
             self.open(server)
             self.tick(f"theme-{theme}")
             for state in self.states():
-                self.assertEqual(browser.script("return getComputedStyle(document.body).backgroundColor"), ground)
+                self.assertEqual(self.ground(), ground)
                 contrast, words = browser.script(CONTRAST)
                 self.assertGreaterEqual(contrast, 4.5, f"{state}, {theme}: {words}")
                 if (state, theme) == ("draft", "dark"):
@@ -1028,7 +1139,7 @@ class Looks(OnThePage):
         self.addCleanup(browser.devtools, "Emulation.setEmulatedMedia", features=[])
         for scheme, ground in (("dark", DARK_GROUND), ("light", LIGHT_GROUND)):
             browser.devtools("Emulation.setEmulatedMedia", features=[{"name": "prefers-color-scheme", "value": scheme}])
-            self.assertEqual(browser.script("return getComputedStyle(document.body).backgroundColor"), ground)
+            self.assertEqual(self.ground(), ground)
 
     def test_a_phone_shows_one_requester(self):
         self.resize(*PHONE)

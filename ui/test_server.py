@@ -1052,7 +1052,7 @@ class Opening(unittest.TestCase):
         self.assertLessEqual({f"/{name}" for name in named}, pages.keys())
 
     def test_the_sample_and_its_labels(self):
-        opened = server.read_opened(TOP / "samples" / "sample.card")
+        opened = server.read_opened(TOP / "samples" / "visit.card")
         ledger = newelsage.Ledger(newelsage.Library(LIBRARY))
         self.assertTrue(ledger.read(bytes.fromhex(opened["card"])).accepted)
         written = answers.written_by(ledger)

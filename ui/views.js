@@ -121,7 +121,7 @@ const ISSUE_REFUSALS = {
   18: () => 'Choose what is happening.',
   19: () => 'Choose between 1 and 240 minutes. It has to end before the last minute there is.',
   20: ({ number }) => `Number ${number} is in use. Choose another number.`,
-  21: () => 'Four people have emergency access already. Wait until one ends.',
+  21: () => 'Four emergency accesses are in use. Wait until one ends.',
 };
 
 function showIssueError(text, question) {
@@ -132,7 +132,8 @@ function showIssueError(text, question) {
 }
 
 function paintIssueError({ state, shown }) {
-  const { status } = state.issued === null ? { status: 0 } : shown.callAnswers[state.issued];
+  const answered = state.issued !== null && state.issued < shown.callAnswers.length;
+  const { status } = answered ? shown.callAnswers[state.issued] : { status: 0 };
   const words = ISSUE_REFUSALS[status] || (() => 'The gateway refused it.');
   if (status === 0) showIssueError('');
   else showIssueError(`${words(shown.calls[state.issued])} (Question ${status})`, status);
@@ -186,9 +187,7 @@ function tokenForm(screen) {
     showIssueError('');
     paintWould(screen);
   };
-  const length = numberField('t-len', state.token.length, LAST_MINUTE, n => edit({ length: n }), {
-    lose: () => edit({ length: null }), 'aria-describedby': 't-len-hint',
-  });
+  const length = numberField('t-len', state.token.length, LAST_MINUTE, n => edit({ length: n }), { lose: () => edit({ length: null }) });
   const number = numberField('t-number', state.token.number, 65535, n => edit({ number: n }), { lose: () => edit({ number: null }) });
   const submit = event => {
     event.preventDefault();
@@ -230,11 +229,11 @@ function lengthOf(token, { calls, callAnswers }) {
 }
 
 function disclosed(i, decision, ledger) {
-  const marks = members(ledger.records[i].labels, 16).map(emergencyMark);
+  const marks = members(ledger.records[i].labels, 16).map(mark => `“${emergencyMark(mark)}”`);
   const past = decision && decision.effect === DENY && decision.basis === 3 ? decision.number : null;
   return h('li', { 'data-record': String(i) }, icon('doc'), h('div', {},
     h('p', { class: 'rname' }, capital(record(i))),
-    h('p', { class: 'hs' }, `Shown because it is marked “${listed(marks, 'or')}”.`),
+    h('p', { class: 'hs' }, `It is marked ${listed(marks)}.`),
     past !== null && h('p', { class: 'over-note' },
       `Directive ${past} closes this record to ${subjectName(directiveOf(past))}. In an emergency it is shown all the same.`)));
 }
@@ -282,6 +281,18 @@ function couldTable({ briefs }) {
     h('tbody', {}, range(8).map(row))));
 }
 
+// Says so where the last step moved the clock and emergency access ended by it.
+function endedNotice({ calls, callAnswers }) {
+  const last = calls.length - 1;
+  if (last < 0 || calls[last].op !== 'advance' || callAnswers[last].status !== 0) return null;
+  const [, ended] = callAnswers[last].values;
+  if (ended === 0) return null;
+  return h('div', { class: 'notice good', id: 'ended', role: 'status' }, icon('clock'),
+    h('div', {},
+      h('p', { class: 'sum-head' }, 'Emergency access has ended'),
+      h('p', {}, `${counted(ended, 'emergency access', 'emergency accesses')} ended when the clock moved.`)));
+}
+
 function liveTokens(screen) {
   const { ledger } = screen.shown;
   if (!ledger.tokens.length) return h('p', { class: 'boxed' }, 'Nobody has emergency access now.');
@@ -309,14 +320,14 @@ export function paintEmergency(screen) {
   const any = shown.ledger.tokens.length > 0;
   refillFor(['urgent', state.serial], byId('main'), () => [
     pageHead('Emergency access', 'If your life is at risk, one person can see the few records that help, for a short time. '
-      + 'Your directives do not apply to these records while it lasts.'),
+      + 'Your directives do not apply to these records for that person while it lasts.'),
     h('div', { class: 'split' },
       h('div', { class: 'split-main', id: 'live' }),
       h('aside', { class: 'panel', 'aria-labelledby': 'give-h' },
         h('h2', { class: 'panel-h', id: 'give-h' }),
         h('div', { id: 'token-slot' }))),
   ]);
-  refill(byId('live'), liveTokens(screen), couldTable(shown));
+  refill(byId('live'), endedNotice(shown), liveTokens(screen), couldTable(shown));
   byId('give-h').textContent = any ? 'Give access to someone else' : 'Give emergency access';
   refillFor([state.tokenSerial, state.serial, screen.knownPeople()], byId('token-slot'), () => tokenForm(screen));
   paintWould(screen);
@@ -338,7 +349,7 @@ function causeWords({ status }) {
 }
 
 function faultWords({ status, values, fault }) {
-  if (fault) return fault.words;
+  if (fault) return fault.words ?? `${fieldWords(fault)} does not pass question ${status}.`;
   if (status === 5) return 'The head, the roles or the first record is not there. The card is empty or was cut short.';
   if (status === 13) return `A directive clashes with directive ${values[0]}. One says yes and one says no to the same request.`;
   return causeWords({ status });
@@ -355,7 +366,8 @@ function fieldWords({ field: index, tag }) {
 function placeWords({ offset, end, byte }, status) {
   const length = counted(end - offset, 'byte');
   const start = `Starts at byte ${offset}`;
-  const size = status === 1 ? `${start}, and only ${length} of it are there.` : `${start} and is ${length} long.`;
+  const are = end - offset === 1 ? 'is' : 'are';
+  const size = status === 1 ? `${start}, and only ${length} of it ${are} there.` : `${start} and is ${length} long.`;
   return byte === null ? size : `${size} The wrong value is at byte ${byte}.`;
 }
 

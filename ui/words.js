@@ -398,15 +398,20 @@ function reasonByDirective(decision, draft) {
   return `${decision.effect === PERMIT ? 'Opened' : 'Closed'} by ${name}: ${words}`;
 }
 
+// Why the default is open or closed, where the places of the record and the reason for asking bear that out.
+export function defaultCause({ effect }, asked) {
+  const held = has(ledger.records[asked.record].origins, asked.origin);
+  const place = origin(asked.origin);
+  if (effect === PERMIT && held && asked.purpose === 0) return `${place} holds this record, and the reason is ${purpose(0)}`;
+  if (effect === DENY && asked.purpose !== 0) return `records are then open for ${purpose(0)} only`;
+  return effect === DENY && !held ? `${place} does not hold this record` : '';
+}
+
 function reasonByDefault(decision, asked) {
   const start = `${answerWord(decision.effect)} by default: no directive applies`;
-  const held = has(ledger.records[asked.record].origins, asked.origin);
-  if (decision.effect === PERMIT && held && asked.purpose === 0) {
-    return `${start}, ${origin(asked.origin)} holds this record, and the reason is ${purpose(0)}.`;
-  }
-  if (decision.effect === DENY && asked.purpose !== 0) return `${start}, and without one records are open for ${purpose(0)} only.`;
-  if (decision.effect === DENY && !held) return `${start}, and ${origin(asked.origin)} does not hold this record.`;
-  return `${start}.`;
+  const cause = defaultCause(decision, asked);
+  if (cause === '') return `${start}.`;
+  return decision.effect === PERMIT ? `${start}, ${cause}.` : `${start}, and ${cause}.`;
 }
 
 // Why a request got its decision. `draft` is the draft that is taken as signed, or null.
@@ -449,7 +454,7 @@ const REFUSED_CALLS = {
   18: 'Nothing was chosen that is happening.',
   19: 'It can last 1 to 240 minutes, and must end before time does.',
   20: 'Its number was in use.',
-  21: 'Four people had emergency access already.',
+  21: 'Four emergency accesses were in use.',
 };
 
 // Why a call was refused, with the question's number.
@@ -460,6 +465,7 @@ export function refusedCall(status, values) {
 
 // What ended when the clock moved, by the counts that an advance answers.
 export function endedWords([directives, tokens]) {
+  if (directives === 0 && tokens === 0) return 'Nothing ended.';
   return `${counted(directives, 'directive')} and ${counted(tokens, 'emergency access', 'emergency accesses')} ended.`;
 }
 
@@ -531,7 +537,10 @@ export function select(id, chosen, options, onchange) {
     : h('optgroup', { label: entry.group }, entry.items.map(item => option(item, chosen)))));
 }
 
+// `control` is the control with this id, or has it inside.
 export function field(id, label, control, hint) {
+  const described = control.id === id ? control : control.querySelector(`#${id}`);
+  if (hint) described.setAttribute('aria-describedby', `${id}-hint`);
   return h('div', { class: 'field' },
     h('label', { for: id }, label),
     hint && h('p', { class: 'hint', id: `${id}-hint` }, hint),
