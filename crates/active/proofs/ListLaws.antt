@@ -57,13 +57,12 @@ module _ (l : ActiveList) (i : ℕ) (h : i < length (directivesOf l)) where
       getD (l .entries) i noActive ≡ activeIn rs (getD (l .entries) i noActive .directive)
   selected-at held = rw directive-at (entry-at held)
 
-  -- the set tells of every number whether the directive selects it
-  pub selects-at :
-      {rs : List Record} → ActiveInvariant rs l → length rs ≤ 128 → (x : ℕ) →
-      contains (getD (l .entries) i noActive .selected) x ≡ selects rs (getD (l .entries) i noActive .directive) x
-  selects-at {rs} held few x =
-      ap (λ (a : Active). contains (a .selected) x) (selected-at held)
-      ∙ contains-selected rs (getD (l .entries) i noActive .directive) x few
+-- the set of an entry tells of every number whether its directive selects it
+pub selects-own :
+    (rs : List Record) {a : Active} → a ≡ activeIn rs (a .directive) → length rs ≤ 128 → (x : ℕ) →
+    contains (a .selected) x ≡ selects rs (a .directive) x
+selects-own rs {a} own few x =
+    ap (λ (b : Active). contains (b .selected) x) own ∙ contains-selected rs (a .directive) x few
 
 -- the last entry
 pub last-at :

@@ -1,4 +1,5 @@
 // What is found in an active list.
+use crate::Active;
 use crate::ActiveList;
 use directive::Request;
 use directive::lowest::Best;
@@ -16,7 +17,7 @@ ghost use Rattle.directive.specs.declared.Directive.{Directive as Given};
 ghost use Rattle.directive.specs.Selection.{selects};
 ghost use Rattle.directive.specs.Matching.{matches};
 ghost use Rattle.directive.specs.Lowest.{bestOf};
-ghost use Rattle.active.specs.Active.{directivesOf, ActiveInvariant};
+ghost use Rattle.active.specs.Active.{directivesOf, activeIn, ActiveInvariant};
 
 // Whether the directive of that number is active.
 pub fn is_active(l: ActiveList, number: u16) -> bool
@@ -45,6 +46,16 @@ pub fn last_selection(l: ActiveList) -> RecordSet
     a.selected
 }
 
+// Whether an active directive matches the request: its kept set tells whether it selects the record.
+pub fn entry_matches(a: Active, parents: &[u8; register::ROLES], count: usize, q: Request) -> bool
+    ensures { λ b. ⌜ ((rs : List Held) → length rs ≤ recordPlaces → a ≡ activeIn rs (a .directive) → b ≡ matches (holding (take count (now (parents .entry))) rs) (a .directive) q) ⌝ }
+{
+    let w = a.selected;
+    let d = a.directive;
+    let selected = sets::record_set::member(w, q.record as usize);
+    directive::matching::matches(parents, count, d, q, selected)
+}
+
 // The lowest of the directives that match the request.
 pub fn lowest_match(
     l: ActiveList,
@@ -55,15 +66,11 @@ pub fn lowest_match(
     ensures { λ r. ⌜ ((rs : List Held) → length rs ≤ recordPlaces → ActiveInvariant rs l → r ≡ bestOf (keep (λ d. matches (holding (take count (now (parents .entry))) rs) d q) (directivesOf l))) ⌝ }
 {
     let n = crate::size(l);
-    let x = q.record as usize;
     let mut best = directive::lowest::nothing();
     for i in 0..n {
         let a = l.entries[i];
-        let w = a.selected;
-        let d = a.directive;
-        let selected = sets::record_set::member(w, x);
-        let b = directive::matching::matches(parents, count, d, q, selected);
-        best = directive::lowest::lower_where(best, d, b);
+        let b = entry_matches(a, parents, count, q);
+        best = directive::lowest::lower_where(best, a.directive, b);
     }
     best
 }

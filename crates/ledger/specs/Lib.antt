@@ -1,5 +1,6 @@
 pub mod State
 pub mod Answer
+pub mod Opening
 pub mod Invariant
 pub mod Enrolment
 pub mod Promises

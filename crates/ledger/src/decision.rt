@@ -3,11 +3,18 @@ use crate::Ledger;
 use crate::answer::DecideAnswer;
 use directive::Query;
 use directive::Request;
+use directive::lowest::Best;
 use register::Register;
 ghost use mathlib.Core.Path.{_≡_};
 ghost use Rattle.register.specs.Register.{contents};
 ghost use Rattle.directive.specs.Matching.{requestAt};
+ghost use Rattle.directive.specs.Lowest.{bestOf};
+ghost use Rattle.ledger_model.specs.Model.{Model};
+ghost use Rattle.ledger_model.specs.Decision.{matching};
 ghost use Rattle.ledger_model.specs.Questions.{requesterInRange, isInRange};
+ghost use Rattle.ledger_model.specs.Calls.{decided};
+ghost use Rattle.ledger.specs.Answer.{decideAnswer};
+ghost use Rattle.ledger.specs.Opening.{Undecided, Opens};
 ghost use Rattle.ledger.specs.Promises.{Decides};
 
 // How many origins and purposes there are.
@@ -39,7 +46,7 @@ fn in_range(g: Register, q: Query) -> bool
 }
 
 // The request that the query is at the minute.
-fn request_at(q: Query, minute: u32) -> Request
+pub fn request_at(q: Query, minute: u32) -> Request
     ensures { λ r. ⌜ r ≡ requestAt q minute ⌝ }
 {
     Request {
@@ -52,33 +59,59 @@ fn request_at(q: Query, minute: u32) -> Request
     }
 }
 
-pub fn decide(l: Ledger, q: Query) -> DecideAnswer
-    ensures { λ a. ⌜ Decides l q a ⌝ }
+// How far a decision is before the directives: made, or open, with the origins of the record asked for.
+pub enum Opening {
+    Made(DecideAnswer),
+    Open(u16),
+}
+
+// Question 17, the patient and the author.
+pub fn before_directives(patient: u16, g: Register, q: Query) -> Opening
+    ensures { λ o. ⌜ ((m : Model) → m .patient ≡ patient → m .register ≡ contents g → Opens m q o) ⌝ }
 {
-    let g = l.register;
     if !in_range(g, q) {
-        return DecideAnswer::NotInRegister;
+        return Opening::Made(DecideAnswer::NotInRegister);
     }
-    if q.person == l.patient {
-        return DecideAnswer::Patient;
+    if q.person == patient {
+        return Opening::Made(DecideAnswer::Patient);
     }
     let r = register::records::record_at(g, q.record as usize);
     if q.person == r.author {
-        return DecideAnswer::Author;
+        return Opening::Made(DecideAnswer::Author);
     }
-    let parents = g.roles;
-    let list = l.active;
-    let best = active::finds::lowest_match(list, &parents, g.role_count, request_at(q, l.clock));
+    Opening::Open(r.origins)
+}
+
+// The lowest directive that matches, and without one the default consent.
+pub fn by_directives(best: Best, origins: u16, q: Query) -> DecideAnswer
+    ensures { λ a. ⌜ ((m : Model) → Undecided m q origins → best ≡ bestOf (matching m q) → decideAnswer a ≡ decided m q) ⌝ }
+{
     if best.found {
         return DecideAnswer::Directive {
             permit: best.permit,
             number: best.number,
         };
     }
-    if !sets::bits::has(r.origins, q.origin) {
+    if !sets::bits::has(origins, q.origin) {
         return DecideAnswer::Default { permit: false };
     }
     DecideAnswer::Default {
         permit: q.purpose == 0,
+    }
+}
+
+pub fn decide(l: Ledger, q: Query) -> DecideAnswer
+    ensures { λ a. ⌜ Decides l q a ⌝ }
+{
+    let g = l.register;
+    match before_directives(l.patient, g, q) {
+        Opening::Made(a) => a,
+        Opening::Open(origins) => {
+            let parents = g.roles;
+            let list = l.active;
+            let asked = request_at(q, l.clock);
+            let best = active::finds::lowest_match(list, &parents, g.role_count, asked);
+            by_directives(best, origins, q)
+        }
     }
 }

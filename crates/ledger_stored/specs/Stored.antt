@@ -1,12 +1,13 @@
 -- The ledger that a stored one stands for, and how a ledger is stored. No definition of document 01 rests on it.
 use Prim.Native.Nat.{ℕ}
 use mathlib.Core.Bool.{Bool, cond, not}
-use mathlib.Core.List.{map}
+use mathlib.Core.List.{List, map}
 use lib.Dec.{eqb}
 use Rattle.directive.specs.declared.Subject.{Subject}
 use Rattle.directive.specs.declared.Subject.the-variants.{Person, Role}
 use Rattle.directive.specs.declared.Directive.{Directive}
 use Rattle.active.specs.declared.Active.{Active}
+use Rattle.active.specs.declared.ActiveList.{ActiveList}
 use Rattle.emergency.specs.declared.Token.{Token}
 use Rattle.ledger.specs.declared.Ledger.{Ledger}
 use Rattle.ledger.specs.State.{ledgerFrom}
@@ -93,9 +94,13 @@ storedToken k =
       «unused_2» = 0;
     }
 
+-- the active list that stored directives and a count stand for
+abbrev pub activeList : List StoredActive → ℕ → ActiveList
+activeList a size = record { entries = map activeOf a; count = size }
+
 unfoldable pub ledgerOf : StoredLedger → Ledger
 ledgerOf t =
-    ledgerFrom (t .patient) (t .clock) (t .register) (record { entries = map activeOf (t .active); count = t .«active_count» })
+    ledgerFrom (t .patient) (t .clock) (t .register) (activeList (t .active) (t .«active_count»))
     (record { tokens = map tokenOf (t .tokens); count = t .«token_count» })
 
 unfoldable pub storedOf : Ledger → StoredLedger

@@ -3,15 +3,29 @@
 use active::Active;
 use active::ActiveList;
 use directive::Directive;
+use directive::Query;
+use directive::Request;
 use directive::Subject;
+use directive::lowest::Best;
 use emergency::Token;
 use emergency::TokenList;
 use ledger::Ledger;
+use ledger::answer::DecideAnswer;
+use ledger::decision::Opening;
 use register::Register;
 use sets::record_set::RecordSet;
 ghost use mathlib.Core.Path.{_≡_};
-ghost use mathlib.Core.List.{map};
-ghost use Rattle.ledger_stored.specs.Stored.{byteOf, subjectOf, kindNumber, subjectNumber, activeOf, storedActive, tokenOf, storedToken, ledgerOf, storedOf};
+ghost use mathlib.Core.List.{List, map};
+ghost use Prim.Native.Nat.{_≤_};
+ghost use lib.ListN.{length, take};
+ghost use Rattle.sets.specs.Quantifiers.{keep};
+ghost use Rattle.register.specs.declared.Record.{Record as Held};
+ghost use Rattle.register.specs.Register.{recordPlaces, holding};
+ghost use Rattle.directive.specs.Matching.{matches};
+ghost use Rattle.directive.specs.Lowest.{bestOf};
+ghost use Rattle.active.specs.Active.{directivesOf, ActiveInvariant};
+ghost use Rattle.ledger.specs.Promises.{Decides};
+ghost use Rattle.ledger_stored.specs.Stored.{byteOf, subjectOf, kindNumber, subjectNumber, activeOf, storedActive, tokenOf, storedToken, activeList, ledgerOf, storedOf};
 
 // What a stored ledger begins with: a name, and in the two lowest bytes the version of the layout.
 pub const STAMP: u64 = 0x4E6577656C730001;
@@ -274,5 +288,43 @@ pub fn stored_of(l: Ledger) -> StoredLedger
         active_count: list.count,
         tokens: kept,
         token_count: held.count,
+    }
+}
+
+// The lowest of the stored directives that match the request.
+fn lowest_match(
+    a: [StoredActive; 32],
+    size: usize,
+    parents: &[u8; register::ROLES],
+    count: usize,
+    q: Request,
+) -> Best
+    ensures { λ r. ⌜ ((rs : List Held) → length rs ≤ recordPlaces → ActiveInvariant rs (activeList a size) → r ≡ bestOf (keep (λ d. matches (holding (take count (now (parents .entry))) rs) d q) (directivesOf (activeList a size)))) ⌝ }
+{
+    let n = sets::bounds::least(size, 32);
+    let mut best = directive::lowest::nothing();
+    for i in 0..n {
+        let stored = a[i];
+        let x = active_of(stored);
+        let b = active::finds::entry_matches(x, parents, count, q);
+        best = directive::lowest::lower_where(best, x.directive, b);
+    }
+    best
+}
+
+// The decision of the ledger that a stored one stands for. The directives that count are brought back one by one, and nothing else is.
+pub fn decide(t: StoredLedger, q: Query) -> DecideAnswer
+    ensures { λ a. ⌜ Decides (ledgerOf t) q a ⌝ }
+{
+    let g = t.register;
+    match ledger::decision::before_directives(t.patient, g, q) {
+        Opening::Made(a) => a,
+        Opening::Open(origins) => {
+            let parents = g.roles;
+            let stored = t.active;
+            let asked = ledger::decision::request_at(q, t.clock);
+            let best = lowest_match(stored, t.active_count, &parents, g.role_count, asked);
+            ledger::decision::by_directives(best, origins, q)
+        }
     }
 }

@@ -19,7 +19,7 @@ use Rattle.card.specs.Promises.{Reads}
 use Rattle.replay_entries.specs.declared.entry.EntryAnswer.{EntryAnswer}
 use Rattle.replay_entries.specs.declared.entry.EntryResult.{EntryResult}
 use Rattle.replay_entries.specs.declared.line.Line.{Line}
-use Rattle.replay_entries.specs.Entries.{Entry, malformed, Said, saidOf, saidTo, callEntry, queryEntry, changes, lineOf, shownOf, Shows, Performed, Performs}
+use Rattle.replay_entries.specs.Entries.{Entry, malformed, Said, saidOf, saidTo, callEntry, queryEntry, decideEntry, entryOf, isCall, changes, lineOf, shownOf, Shows, Performed, Performs}
 use Rattle.newelsage.specs.Answers.{Told, told, Answered, toldSaid, toldRead, Inquiry, counts, token, entry, inquiryOf, notALedgerStatus}
 use Rattle.newelsage.specs.Library.{ReadIn, CalledIn, AskedOn, AskedIn}
 
@@ -97,6 +97,10 @@ counts-asked tag v t n = rw (eq-eqb tag 0 t, eq-eqb (length v) 0 n) refl
 pub counts-malformed : (tag : ℕ) (v : List ℕ) → tag ≡ 0 → (length v ≡ 0 → ⊥) → inquiryOf tag v ≡ entry malformed
 unfolding inquiryOf
 counts-malformed tag v t n = rw (eq-eqb tag 0 t, ne-eqb (length v) 0 n) refl
+
+pub decide-asked : (tag : ℕ) (v : List ℕ) → tag ≡ 0x14 → inquiryOf tag v ≡ entry (decideEntry v)
+unfolding inquiryOf entryOf isCall
+decide-asked tag v t = rw t refl
 
 pub other-asked : (tag : ℕ) (v : List ℕ) → (tag ≡ 0 → ⊥) → (tag ≡ 1 → ⊥) → inquiryOf tag v ≡ entry (queryEntry tag v)
 unfolding inquiryOf

@@ -1,9 +1,13 @@
 // The library's calls on a stored ledger by value.
 use crate::answer::MALFORMED;
 use ledger_stored::StoredLedger;
+use replay_entries::entry::EntryAnswer;
+ghost use Prim.Native.Nat.{ℕ};
 ghost use mathlib.Core.Path.{_≡_};
+ghost use mathlib.Core.List.{List};
 ghost use Rattle.ledger.specs.State.{emptyLedger};
-ghost use Rattle.ledger_stored.specs.Stored.{storedOf};
+ghost use Rattle.ledger_stored.specs.Stored.{ledgerOf, storedOf};
+ghost use Rattle.replay_entries.specs.Entries.{decideEntry, Answers};
 ghost use Rattle.newelsage.specs.Library.{ReadIn, CalledIn, AskedIn};
 
 // The memory does not begin as a ledger of this version does.
@@ -55,12 +59,27 @@ pub fn call(t: StoredLedger, tag: u8, v: &[u8], answer: &mut [u64; 8]) -> Reply
     }
 }
 
+// A decide, over the stored ledger as it is.
+fn decide_entry(t: StoredLedger, v: &[u8]) -> EntryAnswer
+    ensures { λ a. ⌜ ((buffer : List ℕ) → Answers (ledgerOf t) (decideEntry (now (v .entry))) buffer a buffer) ⌝ }
+{
+    if v.len() != 7 {
+        return EntryAnswer::Malformed;
+    }
+    let answer = ledger_stored::decide(t, replay_entries::entry::query_of(v));
+    EntryAnswer::Decide(answer)
+}
+
 // A question to the ledger: two of the library's own, and those of a replay.
 pub fn ask(t: StoredLedger, tag: u8, v: &[u8], lent: &mut [u8], answer: &mut [u64; 8]) -> u64
     ensures { λ r. ⌜ AskedIn t tag (now (v .entry)) (now (lent .entry)) r (now (lent .exit)) (now (answer .exit)) ⌝ }
 {
     if t.stamp != ledger_stored::STAMP {
         return crate::answer::refuse(answer, NOT_A_LEDGER);
+    }
+    if tag == 0x14 {
+        let decided = decide_entry(t, v);
+        return crate::answer::put_line(answer, replay_entries::line::line_of(decided));
     }
     let l = ledger_stored::ledger_of(t);
     if tag == 0x00 {

@@ -108,7 +108,7 @@ fn issue_entry(l: Ledger, v: &[u8]) -> EntryResult
 }
 
 // The query of a decide's value.
-fn query_of(v: &[u8]) -> Query
+pub fn query_of(v: &[u8]) -> Query
     requires { ⌜ querySize ≤ length (now v) ⌝ }
     ensures { λ q. ⌜ q ≡ queryOf (now (v .entry)) ⌝ }
 {
