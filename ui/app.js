@@ -266,7 +266,7 @@ function checkLedger(ledger) {
   need(isListOf(roles, isParent) && roles.length > 0, 'the roles');
   need(isListOf(records, (r, i) => hasCounts(r, RECORD_PARTS) && isParent(r.parent, i)) && records.length > 0, 'the records');
   const isRecord = i => isCount(i) && i < records.length;
-  const isDirective = d => hasCounts(d, DIRECTIVE_PARTS) && isRecord(d.record) && d.effect <= 1 && d.kind <= 1 && d.reach <= 2;
+  const isDirective = d => hasCounts(d, DIRECTIVE_PARTS) && isRecord(d.record) && d.effect <= 1 && d.kind <= 1 && d.reach <= 3;
   need(isListOf(directives, isDirective), 'the directives');
   need(isListOf(tokens, t => hasCounts(t, TOKEN_PARTS) && isListOf(t.records, isRecord, t.count)), 'the tokens');
 }

@@ -8,7 +8,7 @@ import {
 } from './words.js';
 
 const WEEK = 7 * 1440;
-const REACHES = ['Only itself', 'Directly inside', 'All inside'];
+const REACHES = ['Only itself', 'Directly inside', 'All inside', 'Itself and all inside'];
 
 // ---------- The draft's bytes ----------
 
@@ -50,8 +50,13 @@ export function subjectColumn(d) {
 
 // ---------- Ways on ----------
 
+// Whether the record that the draft names is within its own reach.
+function takesItself(d) {
+  return d.reach === 0 || d.reach === 3;
+}
+
 function otherReaches(d) {
-  const words = [`Close ${quoted(d.record)} itself instead`, 'Choose “Directly inside” instead', 'Choose “All inside” instead'];
+  const words = [`Close ${quoted(d.record)} itself instead`, ...REACHES.slice(1).map(reach => `Choose “${reach}” instead`)];
   return range(words.length).filter(reach => reach !== d.reach).map(reach => ({ words: words[reach], patch: { reach } }));
 }
 
@@ -75,7 +80,7 @@ export function waysOn(d, verdict, ledger) {
     }
     case 12: return verdict.patient ? [] : otherReaches(d);
     case 13: return otherTimes(d, directiveOf(verdict.number), ledger.clock);
-    case 14: return verdict.cover && verdict.cover.length === 0 && d.reach !== 0
+    case 14: return verdict.cover && verdict.cover.length === 0 && !takesItself(d)
       ? [{ words: `Use ${quoted(d.record)} itself`, patch: { reach: 0 } }] : [];
     default: return [];
   }
@@ -402,7 +407,7 @@ function clash(screen) {
 }
 
 function appliesToNothing(draft) {
-  const empty = draft.reach !== 0 && childrenOf(draft.record).length === 0;
+  const empty = !takesItself(draft) && childrenOf(draft.record).length === 0;
   return {
     title: 'This directive would not apply to anything',
     body: [h('p', {}, empty ? `${quoted(draft.record)} has nothing inside it.` : 'No record fits the limits you chose.')],

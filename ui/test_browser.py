@@ -382,6 +382,23 @@ class Cases(OnThePage):
         self.assertEqual(self.says("p600", 0), OPEN)
         self.assertEqual(self.says("p600", 1), BY_A)
 
+    def test_a_record_and_all_inside(self):
+        self.ask("Harbour Practice", "Treatment")
+        self.write(**{**FORM_A, "reach": "Itself and all inside"})
+        self.assertIn("may not read “Record file” or anything inside it", self.text("#inwords"))
+        self.assertEqual(self.table()["p600", 0], ("Open", "Closed", "your draft"))
+        self.sign()
+        self.go("access")
+        self.assertEqual([self.says("p600", record) for record in range(3)], [BY_A] * 3)
+        for reach in ("Only itself", "Directly inside", "All inside", "Itself and all inside"):
+            self.write(**{**FORM_A, "number": 2, "reach": reach})
+            question, title, words = self.refusal()
+            self.assertEqual((question, title), (14, "You do not need this directive"))
+            self.assertIn("Already covered by directive 1.", words)
+        self.write(2, PERMIT, "Dr Sam Okafor", "Record file", "Only itself", 1500, 2500)
+        question, title, words = self.refusal()
+        self.assertEqual((question, title), (13, "This clashes with directive 1"))
+
     def test_k5(self):
         self.sign_a()
         self.write(2, PERMIT, "Dr Sam Okafor", "Discharge letter", "Only itself", 1500, 2500)

@@ -326,9 +326,8 @@ export function subjectName(d) {
 
 function reachWords(d) {
   const name = quoted(d.record);
-  if (d.reach === 0) return `${name} itself`;
-  if (d.effect === DENY) return d.reach === 1 ? `any record directly inside ${name}` : `anything inside ${name}`;
-  return d.reach === 1 ? `the records directly inside ${name}` : `everything inside ${name}`;
+  if (d.effect === DENY) return [`${name} itself`, `any record directly inside ${name}`, `anything inside ${name}`, `${name} or anything inside it`][d.reach];
+  return [`${name} itself`, `the records directly inside ${name}`, `everything inside ${name}`, `${name} and everything inside it`][d.reach];
 }
 
 function typeWords(i) {
@@ -365,7 +364,7 @@ export function directiveWords(d) {
 
 export function shortDirective(d) {
   const name = quoted(d.record);
-  const what = [name, `the records directly inside ${name}`, `all that is inside ${name}`][d.reach];
+  const what = [name, `the records directly inside ${name}`, `all that is inside ${name}`, `${name} and all that is inside it`][d.reach];
   return `${d.effect === PERMIT ? 'Opens' : 'Closes'} ${what} to ${subjectName(d)}.`;
 }
 

@@ -10,3 +10,5 @@ pub mod Cards
 pub mod DemandTwo
 pub mod DemandThree
 pub mod Foresight
+pub mod FolderLaws
+pub mod Folder

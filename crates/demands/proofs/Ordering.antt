@@ -25,13 +25,13 @@ use Rattle.demands.specs.Demands.{effectAndBasis}
 use Rattle.demands.proofs.Runs.{run-sound, run-model}
 
 -- what is committed is bytes, and a minute is of 32 bits
-drafts-bytes :
+pub drafts-bytes :
     {l m : Ledger} {rs : List Answer} (ss : List (List ℕ)) → Run l (map commit ss) rs m → allIn isBytes ss ≡ true
 unfolding allIn
 drafts-bytes [] run = refl
 drafts-bytes (s ∷ ss) (more (committing _ r e f) rest) = rw (e, drafts-bytes ss rest)
 
-advanced-small :
+pub advanced-small :
     {l m : Ledger} {rs : List Answer} (minutes : List ℕ) → Run l (map advance minutes) rs m →
     allIn (inBits 32) minutes ≡ true
 unfolding allIn
@@ -39,7 +39,7 @@ advanced-small [] run = refl
 advanced-small (t ∷ ts) (more (advancing _ r e f) rest) = rw (lt-ltb t (2 ^ 32) e, advanced-small ts rest)
 
 -- what a decide tells after two lists of calls
-told-after :
+pub told-after :
     {l m n : Ledger} {cs ds : List Call} {rs xs : List Answer} → Invariant l → Run l cs rs m → Run m ds xs n →
     (q : Query) (a : DecideAnswer) → Decides n q a →
     effectAndBasis a ≡ take 2 (values (decided (modelAfter (modelAfter (view l) cs) ds) q))

@@ -2,3 +2,4 @@ pub mod Runs
 pub mod Counts
 pub mod Demands
 pub mod Foresight
+pub mod Folder

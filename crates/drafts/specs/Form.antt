@@ -53,7 +53,8 @@ firstEditionSize = 23
 unfoldable pub withPurposes : List ℕ → List ℕ
 withPurposes s = take 15 s ++ bytes 2 everyPurpose ++ drop 15 s
 
--- Question 7: "Effect and kind 0 or 1, reach 0..2, every set non-empty, purposes within 0x07FF?"
+-- Question 7: "Effect and kind 0 or 1, reach 0..2, every set non-empty, purposes within 0x07FF?"; document 02, #102: "Question 7 now
+-- allows 0..3."
 unfoldable pub keepsRanges : Draft → Bool
 keepsRanges d =
     leb (d .effect) 1

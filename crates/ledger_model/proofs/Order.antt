@@ -31,7 +31,7 @@ use Rattle.ledger_model.specs.Invariant.{ModelInvariant}
 use Rattle.ledger_model.proofs.Questions.{told-where}
 use Rattle.ledger_model.proofs.Soundness.{sound-advance}
 use Rattle.ledger_model.proofs.Reordering.{all-reordered, some-reordered, compatible-reordered}
-use Rattle.ledger_model.proofs.Covering.{coveredBy, drafts-added}
+use Rattle.ledger_model.proofs.Covering.{coveredBy, coveredByDrafts, drafts-added}
 use Rattle.ledger_model.proofs.Saying.{now, in-range-now, said-effect, says, said-by-covered}
 
 -- The directives ds cover the same requests from the clock on as the active of m.
@@ -117,16 +117,18 @@ same-after (t ∷ ts) small m ds same q person =
     ∙ ap after (sym (advanced-is (withActive m ds) t false e)))
     (either-way (leb (m .clock) t))
 
-pub order-model :
-    (m : Model) → ModelInvariant m → (ss ts : List (List ℕ)) → allIn isBytes ss ≡ true → compatible m ss ≡ true →
-    List·Permᴰ ss ts → (minutes : List ℕ) → allIn (inBits 32) minutes ≡ true → (q : Query) → q .person < persons →
+-- Two lists of compatible drafts that cover the same requests leave every decide call the same effect and basis, now and after the same
+-- advances.
+pub same-drafts :
+    (m : Model) → ModelInvariant m → (ss ts : List (List ℕ)) → allIn isBytes ss ≡ true → allIn isBytes ts ≡ true →
+    compatible m ss ≡ true → compatible m ts ≡ true →
+    ((b : Bool) (q : Request) → coveredByDrafts m ss b q ≡ coveredByDrafts m ts b q) →
+    (minutes : List ℕ) → allIn (inBits 32) minutes ≡ true → (q : Query) → q .person < persons →
     take 2 (values (decided (modelAfter (modelAfter m (map commit ss)) (map advance minutes)) q))
     ≡ take 2 (values (decided (modelAfter (modelAfter m (map commit ts)) (map advance minutes)) q))
-order-model m h ss ts e beside other minutes small q person =
-    let one = drafts-added m h ss e beside in
-    let two =
-    drafts-added m h ts (sym (all-reordered isBytes other) ∙ e) (sym (compatible-reordered m other) ∙ beside)
-    in
+same-drafts m h ss ts bytes others beside other same minutes small q person =
+    let one = drafts-added m h ss bytes beside in
+    let two = drafts-added m h ts others other in
     let after : Model → List ℕ = λ n. take 2 (values (decided (modelAfter n (map advance minutes)) q)) in
     ap after (one .leads)
     ∙ same-after minutes small (withActive m (one .directives)) (two .directives)
@@ -134,7 +136,20 @@ order-model m h ss ts e beside other minutes small q person =
       invariant = one .invariant;
       sound-other = two .invariant;
       covers = λ b r i.
-          one .coverage b r i ∙ ap (coveredBy m b r ||_) (some-reordered _ other) ∙ sym (two .coverage b r i);
+          one .coverage b r i ∙ ap (coveredBy m b r ||_) (same b r) ∙ sym (two .coverage b r i);
     })
     q person
     ∙ ap after (sym (two .leads))
+
+pub order-model :
+    (m : Model) → ModelInvariant m → (ss ts : List (List ℕ)) → allIn isBytes ss ≡ true → compatible m ss ≡ true →
+    List·Permᴰ ss ts → (minutes : List ℕ) → allIn (inBits 32) minutes ≡ true → (q : Query) → q .person < persons →
+    take 2 (values (decided (modelAfter (modelAfter m (map commit ss)) (map advance minutes)) q))
+    ≡ take 2 (values (decided (modelAfter (modelAfter m (map commit ts)) (map advance minutes)) q))
+order-model m h ss ts e beside other minutes small q person =
+    same-drafts m h ss ts e
+    (sym (all-reordered isBytes other) ∙ e)
+    beside
+    (sym (compatible-reordered m other) ∙ beside)
+    (λ b r. some-reordered _ other)
+    minutes small q person

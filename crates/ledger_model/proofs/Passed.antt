@@ -84,6 +84,17 @@ module _ (j : Judgement) (m : Model) (s : List ℕ) where
       passes (questionsBefore 14 (bytesQuestions j m s)) ≡ true
   before-14-make size h = before-14 ∙ rw (size, passed-make j m (draftOf s) h)
 
+  -- after those before 12 stand 12 to 14
+  pub from-12 :
+      bytesQuestions j m s
+      ≡ questionsBefore 12 (bytesQuestions j m s)
+      ++ (ask 12 (not (j .breaks (m .register) (m .patient) (m .clock) (drafted s)))
+      ∷ conflictQuestion j m (drafted s)
+      ∷ ask 14 (not (j .repeats (m .register) (m .clock) (drafted s) (m .active)))
+      ∷ [])
+  unfolding questionsBefore bytesQuestions draftQuestions directiveQuestions
+  from-12 = refl
+
   -- after those before 13 stand 13 and 14
   pub from-13 :
       bytesQuestions j m s

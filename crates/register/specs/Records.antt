@@ -1,6 +1,6 @@
--- Records: the record of a number, children and descendants, and the three reaches.
+-- Records: the record of a number, children and descendants, and the reaches.
 use Prim.Native.Nat.{ℕ, zero, suc}
-use mathlib.Core.Bool.{Bool, false}
+use mathlib.Core.Bool.{Bool, true, false, _&&_, _||_}
 use mathlib.Core.List.{List, map}
 use lib.ListN.{length, getD}
 use lib.Dec.{eqb, ltb}
@@ -26,16 +26,30 @@ child rs r x = isParent (parents rs) r x
 abbrev pub descendant : List Record → ℕ → ℕ → Bool
 descendant rs r x = isAbove (parents rs) r x
 
--- "Reach 0 is the record itself, 1 its children, 2 all its descendants without itself": a reach is described by which of
--- the three it takes. There is no reach past the last.
-abbrev pub reachTakes : ℕ → Bool → Bool → Bool → Bool
-reachTakes zero itself isChild isDescendant = itself
-reachTakes (suc zero) itself isChild isDescendant = isChild
-reachTakes (suc (suc zero)) itself isChild isDescendant = isDescendant
-reachTakes (suc (suc (suc n))) itself isChild isDescendant = false
+-- Which of a record itself, its children and all its descendants a reach takes.
+pub record Reach : Type 0 where
+  pub itself : Bool
+  pub children : Bool
+  pub descendants : Bool
+
+-- "Reach 0 is the record itself, 1 its children, 2 all its descendants without itself"; document 02, #102: "Reach 3 is the record
+-- with all its descendants." There is no reach past the last.
+abbrev pub reachOf : ℕ → Reach
+reachOf zero = record { itself = true; children = false; descendants = false }
+reachOf (suc zero) = record { itself = false; children = true; descendants = false }
+reachOf (suc (suc zero)) = record { itself = false; children = false; descendants = true }
+reachOf (suc (suc (suc zero))) = record { itself = true; children = false; descendants = true }
+reachOf (suc (suc (suc (suc n)))) = record { itself = false; children = false; descendants = false }
 
 abbrev pub lastReach : ℕ
-lastReach = 2
+lastReach = 3
+
+-- whether a reach takes a record, given whether that is the record itself, a child, a descendant
+abbrev pub reachTakes : ℕ → Bool → Bool → Bool → Bool
+reachTakes reach itself isChild isDescendant =
+    reachOf reach .itself && itself
+    || reachOf reach .children && isChild
+    || reachOf reach .descendants && isDescendant
 
 -- record x is within this reach of record r
 unfoldable pub reaches : List Record → ℕ → ℕ → ℕ → Bool

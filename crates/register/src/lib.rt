@@ -13,7 +13,7 @@ pub const ROLES: usize = 16;
 pub const RECORDS: usize = 128;
 
 // The last reach that there is.
-pub const LAST_REACH: u8 = 2;
+pub const LAST_REACH: u8 = 3;
 
 // The last type that a record can have.
 pub const LAST_KIND: u8 = 7;

@@ -30,6 +30,7 @@ pub fn reach_takes(reach: u8, itself: bool, child: bool, descendant: bool) -> bo
         0 => itself,
         1 => child,
         2 => descendant,
+        3 => if itself { true } else { descendant },
         _ => false,
     }
 }

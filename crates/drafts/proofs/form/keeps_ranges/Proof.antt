@@ -4,6 +4,7 @@ use mathlib.Core.Bool.{and-false}
 use native.Mathlib.Omega.{arith}
 use borrow.Author.Needs.{needs}
 use borrow.Author.Tests.{le-leb, lt-leb, lt-ltb}
+use Rattle.register.specs.Records.{lastReach}
 use Rattle.drafts.specs.Form.{keepsRanges}
 use Rattle.drafts.proofs.form.keeps_ranges.Statement.{statement}
 use Rattle.drafts.proofs.form.keeps_ranges.Tie as tie
@@ -51,7 +52,7 @@ returns-9 c =
     ∙ rw (
       le-leb (d .effect) 1 (omega arith),
       le-leb (d .«subject_kind») 1 (omega arith),
-      le-leb (d .reach) 2 (omega arith),
+      le-leb (d .reach) lastReach (omega arith),
       lt-ltb 0 (d .«subject_origins») (omega arith),
       lt-ltb 0 (d .origins) (omega arith),
       lt-ltb 0 (d .sensitivities) (omega arith),
