@@ -140,8 +140,8 @@ pub struct Directive {
 }
 
 impl Directive {
-    /// Question 7: "Effect and kind 0 or 1, reach 0..2, every set non-empty,
-    /// purposes within 0x07FF?"
+    /// Question 7: "Effect and kind 0 or 1, .. every set non-empty, purposes
+    /// within 0x07FF?", which for the reach "allows 0..3".
     pub fn from_fields(fields: &Fields) -> Result<Directive, Refusal> {
         let effect = match fields.effect {
             0 => Effect::Deny,

@@ -17,7 +17,7 @@ pub enum Refusal {
     CardIncomplete,
     /// 6. Draft: is it 25 bytes?
     DraftLength,
-    /// 7. Effect and kind 0 or 1, reach 0..2, every set non-empty, purposes
+    /// 7. Effect and kind 0 or 1, reach 0..3, every set non-empty, purposes
     ///    within 0x07FF?
     DraftRange,
     /// 8. Does the register have its role (if one is named) and record?

@@ -79,30 +79,49 @@ impl Record {
     }
 }
 
-/// "Reach 0 is the record itself, 1 its children, 2 all its descendants
-/// without itself."
+/// What a reach is made of: the record itself, its children, and all its
+/// descendants without itself.
 #[derive(Clone, Copy, Debug, PartialEq, Eq)]
-pub enum Reach {
+enum Part {
     Itself,
     Children,
     Descendants,
 }
 
+/// "Reach 0 is the record itself, 1 its children, 2 all its descendants
+/// without itself", and "reach 3 is the record with all its descendants".
+#[derive(Clone, Copy, Debug, PartialEq, Eq)]
+pub enum Reach {
+    Itself = 0,
+    Children = 1,
+    Descendants = 2,
+    Folder = 3,
+}
+
 impl Reach {
+    pub const ALL: [Reach; 4] = [
+        Reach::Itself,
+        Reach::Children,
+        Reach::Descendants,
+        Reach::Folder,
+    ];
+
     pub fn decode(byte: u8) -> Option<Reach> {
-        match byte {
-            0 => Some(Reach::Itself),
-            1 => Some(Reach::Children),
-            2 => Some(Reach::Descendants),
-            _ => None,
-        }
+        Reach::ALL.into_iter().find(|reach| reach.encode() == byte)
     }
 
     pub fn encode(self) -> u8 {
+        self as u8
+    }
+
+    /// The one description of a reach: what is within it follows from its
+    /// parts.
+    fn parts(self) -> &'static [Part] {
         match self {
-            Reach::Itself => 0,
-            Reach::Children => 1,
-            Reach::Descendants => 2,
+            Reach::Itself => &[Part::Itself],
+            Reach::Children => &[Part::Children],
+            Reach::Descendants => &[Part::Descendants],
+            Reach::Folder => &[Part::Itself, Part::Descendants],
         }
     }
 }
@@ -198,17 +217,23 @@ impl Register {
         }
     }
 
-    /// Whether `record` is within the reach from `top`. The root is no child
-    /// and no descendant of itself, although its parent byte is 0.
+    /// Whether `record` is within the reach from `top`.
     pub fn reaches(&self, top: u8, reach: Reach, record: u8) -> bool {
+        let mut parts = reach.parts().iter();
+        parts.any(|part| self.has_part(top, *part, record))
+    }
+
+    /// Whether `record` is in this part, seen from `top`. The root is no child
+    /// and no descendant of itself, although its parent byte is 0.
+    fn has_part(&self, top: u8, part: Part, record: u8) -> bool {
         let number = usize::from(record);
-        match reach {
-            Reach::Itself => record == top && number < self.records.len(),
-            Reach::Children => {
+        match part {
+            Part::Itself => record == top && number < self.records.len(),
+            Part::Children => {
                 let parent = self.records.get(number).map(|found| found.parent);
                 record != 0 && parent == Some(top)
             }
-            Reach::Descendants => {
+            Part::Descendants => {
                 let ancestors = self.ancestors.get(number).copied().unwrap_or(0);
                 ancestors & record_bit(top) != 0
             }

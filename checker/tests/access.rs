@@ -421,8 +421,9 @@ fn wrong_lines_of_access_are_found() {
 #[test]
 fn a_wrong_status_of_access_is_found() {
     let folder = directory("access-status-scripts");
-    for (status, [checker, program]) in [("0", ["1", "0"]), ("1", ["0", "1"])] {
-        let wrong = lines_changed(&folder, "cat", status);
+    for [checker, program] in [["1", "0"], ["0", "1"]] {
+        let status = format!("$((status == {checker} ? {program} : status))");
+        let wrong = lines_changed(&folder, "cat", &status);
         let (output, files) = compare_access(&wrong, "access-status");
         assert_eq!(output.status.code(), Some(1));
         assert_eq!(files, [after(&output, "different: ")]);
@@ -433,7 +434,7 @@ fn a_wrong_status_of_access_is_found() {
         assert!(text(&output.stdout).contains(&expected), "{status}");
     }
     // Refused by another status than 1.
-    let crashed = lines_changed(&folder, "cat", "$((status * 3))");
+    let crashed = lines_changed(&folder, "cat", "$((status == 1 ? 3 : status))");
     let (output, _) = compare_access(&crashed, "access-status");
     assert!(after(&output, "crashed: ").ends_with(".card"));
     assert_eq!(after(&output, "program: "), "ended with status 3");

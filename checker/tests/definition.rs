@@ -80,22 +80,17 @@ impl Model {
     }
 
     /// "Reach 0 is the record itself, 1 its children, 2 all its descendants
-    /// without itself."
+    /// without itself." "Reach 3 is the record with all its descendants."
     fn within(&self, top: u8, reach: u8, record: u8) -> bool {
-        let parent = |record: u8| self.records[usize::from(record)].parent;
+        let parent = |record: &u8| self.records[usize::from(*record)].parent;
+        let above = |record: &u8| (*record != 0).then(|| parent(record));
+        let mut way_to_the_root = std::iter::successors(Some(record), above);
         match reach {
             0 => record == top,
-            1 => record != 0 && parent(record) == top,
-            _ => {
-                let mut below = record;
-                while below != 0 {
-                    below = parent(below);
-                    if below == top {
-                        return true;
-                    }
-                }
-                false
-            }
+            1 => way_to_the_root.nth(1) == Some(top),
+            2 => way_to_the_root.skip(1).any(|higher| higher == top),
+            3 => way_to_the_root.any(|higher| higher == top),
+            _ => panic!("reach {reach}"),
         }
     }
 
@@ -235,7 +230,7 @@ impl Model {
         let sets = [draft.subject_origins, draft.po, draft.ps, draft.purposes];
         let in_range = draft.effect < 2
             && draft.kind < 2
-            && draft.reach < 3
+            && draft.reach <= 3
             && sets.iter().all(|set| *set != 0)
             && draft.pt != 0
             && draft.purposes <= 0x07FF;

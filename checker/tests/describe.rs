@@ -84,6 +84,7 @@ fn small_values() {
         reach(Reach::Descendants, 4),
         "everything under record 4, without itself"
     );
+    assert_eq!(reach(Reach::Folder, 4), "record 4 and everything under it");
     assert_eq!(counted(0, "record"), "no records");
     assert_eq!(counted(1, "record"), "1 record");
     assert_eq!(counted(2, "record"), "2 records");

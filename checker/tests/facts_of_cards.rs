@@ -452,8 +452,8 @@ fn a_directive_out_of_its_ranges() {
             65,
             "is for requests from no origin. It needs at least one.",
         ),
-        (&[(68, 3)], 68, "has reach 3. Reaches are 0 to 2."),
-        (&[(68, 255)], 68, "has reach 255. Reaches are 0 to 2."),
+        (&[(68, 4)], 68, "has reach 4. Reaches are 0 to 3."),
+        (&[(68, 255)], 68, "has reach 255. Reaches are 0 to 3."),
         (
             &[(69, 0), (70, 0)],
             69,
@@ -491,9 +491,9 @@ fn a_directive_out_of_its_ranges() {
             "has subject kind 9. Kinds are 0 (a person) and 1 (a role).",
         ),
         (
-            &[(68, 4), (73, 0), (74, 8)],
+            &[(68, 5), (73, 0), (74, 8)],
             68,
-            "has reach 4. Reaches are 0 to 2.",
+            "has reach 5. Reaches are 0 to 3.",
         ),
         // Before questions 8 and 9.
         (

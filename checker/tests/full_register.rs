@@ -174,7 +174,8 @@ fn the_baseline_at_every_record() {
     }
 }
 
-/// A chain of 128 records: reach 2 goes all the way down, reach 1 one step.
+/// A chain of 128 records: reaches 2 and 3 go all the way down, reach 1 one
+/// step.
 #[test]
 fn reach_along_a_chain() {
     let mut card = sample();
@@ -187,6 +188,7 @@ fn reach_along_a_chain() {
             (0, (top..top + 1).collect::<Vec<u8>>()),
             (1, (top + 1..128).take(1).collect()),
             (2, (top + 1..128).collect()),
+            (3, (top..128).collect()),
         ] {
             let permit = draft(PERMIT, (ROLE, 0), top, reach);
             let directive = ledger.validate(&permit).expect("the draft is in range");

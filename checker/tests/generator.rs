@@ -156,7 +156,8 @@ fn many_calls_are_mixed_to_their_end() {
             assert!(counts.of(kind) >= 50, "seed {seed}, {kind}");
         }
         for call in CALLS {
-            assert!(counts.of(Kind::Accepted(call)) >= 100, "{call}");
+            let accepted = counts.of(Kind::Accepted(call));
+            assert!(accepted >= 50, "seed {seed}, {call}: {accepted}");
         }
     }
 }

@@ -91,13 +91,13 @@ fn question_7_byte_by_byte() {
             ..base
         };
         expect(kind, value < 2);
-        // Reach 1 and 2 from record 0 select records.
+        // Every reach from record 0 selects a record.
         let reach = Fields {
             reach: value,
             record: 0,
             ..base
         };
-        expect(reach, value < 3);
+        expect(reach, value <= 3);
     }
     expect(
         Fields {

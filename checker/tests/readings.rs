@@ -405,12 +405,14 @@ fn the_root_is_not_its_own_child() {
     assert_eq!(reached(0, Reach::Itself), [0]);
     assert_eq!(reached(0, Reach::Children), [1]);
     assert_eq!(reached(0, Reach::Descendants), [1, 2]);
+    assert_eq!(reached(0, Reach::Folder), [0, 1, 2]);
     assert_eq!(reached(1, Reach::Itself), [1]);
     assert_eq!(reached(1, Reach::Children), [2]);
     assert_eq!(reached(1, Reach::Descendants), [2]);
+    assert_eq!(reached(1, Reach::Folder), [1, 2]);
     assert_eq!(reached(2, Reach::Itself), [2]);
     assert_eq!(reached(2, Reach::Children), [] as [u8; 0]);
-    for reach in [Reach::Itself, Reach::Children, Reach::Descendants] {
+    for reach in Reach::ALL {
         for top in 3..=255 {
             assert_eq!(reached(top, reach), [] as [u8; 0]);
         }

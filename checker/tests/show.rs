@@ -269,9 +269,9 @@ fn what_is_wrong_with_a_field() {
             "It reads: directive 2 with effect 2, subject kind 3, subject 3, subject origins \
              0xFFFF, record 0, reach 4, po 0xFFFF, ps 0xFFFF, pt 0xFF, purposes 0x0800, from 1000, \
              until 2000. The effect is 2; it is 0 (deny) or 1 (permit). The subject's kind is 3; \
-             it is 0 (person) or 1 (role). The reach is 4; it is 0 (the record), 1 (its children) \
-             or 2 (its descendants). The purposes are 0x0800; only bits 0 to 10 (0x07FF) are \
-             purposes.",
+             it is 0 (person) or 1 (role). The reach is 4; it is 0 (the record), 1 (its children), \
+             2 (its descendants) or 3 (the record with its descendants). The purposes are 0x0800; \
+             only bits 0 to 10 (0x07FF) are purposes.",
         ),
         (
             with_draft(Fields { subject_origins: 0, po: 0, ps: 0, pt: 0, purposes: 0, ..good }),

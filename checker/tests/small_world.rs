@@ -83,16 +83,17 @@ pub fn draft(card: &Card, clock: u32, random: &mut Random) -> Fields {
     }
 }
 
-/// A record with a reach, which in three of four cases has something in it.
+/// A record with a reach, which in four of five cases has something in it.
 fn target(card: &Card, random: &mut Random) -> (u8, u8) {
     let record = random.index(card.records.len()) as u8;
     let parent = card.records[usize::from(record)].parent;
-    match random.range(0, 3) {
-        0 => (record, random.up_to(2)),
-        1 => (record, 0),
-        _ if record == 0 => (record, 0),
+    match random.range(0, 4) {
+        0 => (record, random.up_to(3)),
+        1 => (record, random.pick(&[0, 3])),
+        _ if record == 0 => (record, random.pick(&[0, 3])),
         2 => (parent, 1),
-        _ => (parent, 2),
+        3 => (parent, 2),
+        _ => (parent, 3),
     }
 }
 
@@ -121,7 +122,7 @@ pub fn pieces(draft: &Fields, clock: u32, random: &mut Random) -> Vec<Fields> {
         let mut one = pieces.swap_remove(place);
         let mut other = one;
         let first = one.from.max(clock);
-        match random.range(0, 2) {
+        match random.range(0, 3) {
             0 if one.subject_origins == 0x8001 => {
                 (one.subject_origins, other.subject_origins) = (0x0001, 0x8000);
             }
@@ -130,6 +131,7 @@ pub fn pieces(draft: &Fields, clock: u32, random: &mut Random) -> Vec<Fields> {
                 let middle = random.range(first + 1, one.until - 1);
                 (one.until, other.from) = (middle, middle);
             }
+            3 if one.reach == 3 => (one.reach, other.reach) = (0, 2),
             _ => {}
         }
         pieces.extend([one, other]);
@@ -137,11 +139,12 @@ pub fn pieces(draft: &Fields, clock: u32, random: &mut Random) -> Vec<Fields> {
     if random.chance(50) {
         let place = random.index(pieces.len());
         let piece = &mut pieces[place];
-        match random.range(0, 4) {
+        match random.range(0, 5) {
             0 => piece.from += 1,
             1 => piece.until = piece.until.saturating_sub(1),
             2 => piece.subject_origins = 0x0001,
             3 => piece.purposes = 0x0400,
+            4 if piece.reach == 3 => piece.reach = 2,
             _ => piece.ps = 0x0001,
         }
     }

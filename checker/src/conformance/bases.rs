@@ -12,7 +12,7 @@ const MATCHES: Source = Says(
     "A directive matches it when subject, subject origins and purposes cover it, the record is \
      selected, and from <= minute < until.",
 );
-const SELECTS: Source = Says(
+pub(super) const SELECTS: Source = Says(
     "It selects a record within its reach whose origins all lie in po, whose sensitivities all \
      lie in ps and whose type is in pt (001, Definition 5).",
 );

@@ -7,7 +7,7 @@ use crate::directive::Fields;
 use super::sample::*;
 use super::scenario::{on, on_empty, on_sample, Scenario};
 use super::Source::{Decisions, Says};
-use super::{Case, Topic};
+use super::{Case, Topic, ALLOWS};
 
 const LAST_MINUTE: u32 = u32::MAX;
 
@@ -93,8 +93,8 @@ fn length() -> Vec<Case> {
 
 fn ranges() -> Vec<Case> {
     let topic = Topic("question 7");
-    let says =
-        Says("Effect and kind 0 or 1, reach 0..2, every set non-empty, purposes within 0x07FF?");
+    let says = Says("Effect and kind 0 or 1");
+    let bounded = Decisions("2.2");
     let fits = fits();
     let refused = |draft: Fields| on_sample().commit(draft, "7");
     let accepted = |draft: Fields| on_sample().commit(draft, "0");
@@ -113,14 +113,32 @@ fn ranges() -> Vec<Case> {
         ),
         topic.case(
             "q07-reach-3",
-            "Reach 3 is 7; an implementation that takes it for descendants accepts it, one that \
-             lets it reach nothing answers 14.",
-            says,
-            refused(Fields {
+            "Reach 3 is in range; an implementation of document 01 alone answers 7, one that lets \
+             it reach nothing 14.",
+            ALLOWS,
+            accepted(Fields {
                 record: 0,
                 reach: 3,
                 ..fits
             }),
+        ),
+        topic.case(
+            "q07-reach-4",
+            "Reach 4 is 7; an implementation that takes all above 2 for the folder accepts it, one \
+             that lets it reach nothing answers 14.",
+            ALLOWS,
+            refused(Fields {
+                record: 0,
+                reach: 4,
+                ..fits
+            }),
+        ),
+        topic.case(
+            "q07-reach-by-its-low-bits",
+            "Reaches 7 and 255 are 7; an implementation that keeps the two low bits takes them for \
+             3 and accepts the first.",
+            ALLOWS,
+            refused(Fields { reach: 7, ..fits }).commit(Fields { reach: 255, ..fits }, "7"),
         ),
         topic.case(
             "q07-no-subject-origins",
@@ -163,7 +181,7 @@ fn ranges() -> Vec<Case> {
         topic.case(
             "q07-purpose-10",
             "Purpose 10 alone, 0x0400, is in range; an implementation with ten purposes answers 7.",
-            says,
+            bounded,
             accepted(Fields {
                 purposes: 0x0400,
                 ..fits
@@ -173,7 +191,7 @@ fn ranges() -> Vec<Case> {
             "q07-purpose-11",
             "Purpose 11 alone, 0x0800, is 7; an implementation that masks it away finds no \
              request and answers 14.",
-            says,
+            bounded,
             refused(Fields {
                 purposes: 0x0800,
                 ..fits
@@ -183,7 +201,7 @@ fn ranges() -> Vec<Case> {
             "q07-purposes-past-the-range",
             "0x8001 has a purpose within the range and one beyond it, 7; an implementation that \
              masks the rest away accepts it.",
-            says,
+            bounded,
             refused(Fields {
                 purposes: 0x8001,
                 ..fits
@@ -213,18 +231,27 @@ fn card_with(directive: Fields) -> Vec<u8> {
 fn ranges_on_a_card() -> Vec<Case> {
     let topic = Topic("question 7");
     let says = Says("A 0x04 field goes on with 7 to 13.");
-    vec![topic.case(
-        "q07-card-effect-2",
-        "Effect 2 on a card is 7; a reader that puts question 4 to directives answers 4.",
-        says,
-        Scenario::of_card(
-            &card_with(Fields {
-                effect: 2,
-                ..fits()
-            }),
-            "7 0 0",
+    vec![
+        topic.case(
+            "q07-card-effect-2",
+            "Effect 2 on a card is 7; a reader that puts question 4 to directives answers 4.",
+            says,
+            Scenario::of_card(
+                &card_with(Fields {
+                    effect: 2,
+                    ..fits()
+                }),
+                "7 0 0",
+            ),
         ),
-    )]
+        topic.case(
+            "q07-card-reach-4",
+            "Reach 4 on a card is 7; a reader that takes all above 2 for the folder accepts the \
+             card.",
+            ALLOWS,
+            Scenario::of_card(&card_with(Fields { reach: 4, ..fits() }), "7 0 0"),
+        ),
+    ]
 }
 
 fn register() -> Vec<Case> {

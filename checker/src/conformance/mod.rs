@@ -37,6 +37,8 @@ mod drafts;
 
 mod examples;
 
+mod folder;
+
 mod format;
 
 mod lists;
@@ -62,6 +64,13 @@ pub enum Source {
     /// that decide alone.
     Says(&'static str),
 }
+
+// The sentences of document 02's request #102.
+
+const FOLDER: Source = Source::Says("Reach 3 is the record with all its descendants.");
+const FOLLOWS: Source =
+    Source::Says("What \"selects\" means changes, and with it conflict, baseline and superfluous.");
+const ALLOWS: Source = Source::Says("Question 7 now allows 0..3.");
 
 #[derive(Clone, Debug)]
 pub struct Case {
@@ -115,6 +124,7 @@ pub fn cases() -> Vec<Case> {
         cards::cases(),
         briefs::cases(),
         previews::cases(),
+        folder::cases(),
         format::cases(),
         examples::cases(),
     ]

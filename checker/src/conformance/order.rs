@@ -284,9 +284,9 @@ fn card_directives() -> Vec<Case> {
     let rows: [(_, _, &[Fields], _); 6] = [
         (
             "order-card-7-before-8",
-            "A card's directive with reach 3 on record 200 is 7; a reader that looks for the \
+            "A card's directive with reach 4 on record 200 is 7; a reader that looks for the \
              record first answers 8.",
-            &[draft(PERMIT, (PERSON, 600), 200, 3)],
+            &[draft(PERMIT, (PERSON, 600), 200, 4)],
             "7 0 0",
         ),
         (

@@ -28,7 +28,7 @@ pub fn cases() -> Vec<Case> {
 
 /// Several active directives that cover the draft together, numbered from 11.
 /// With all of them the draft is 14; once the last is revoked it is accepted.
-fn together(start: Scenario, active: &[Fields], draft: Fields) -> Scenario {
+pub(super) fn together(start: Scenario, active: &[Fields], draft: Fields) -> Scenario {
     let numbers = 11..;
     let active: Vec<Fields> = numbers
         .zip(active)

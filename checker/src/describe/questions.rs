@@ -1,4 +1,4 @@
-//! Document 01's 24 questions in short words.
+//! The 24 questions in short words.
 
 use crate::refusal::Refusal;
 
@@ -12,7 +12,7 @@ pub fn question(number: u8) -> Option<&'static str> {
         5 => "At the card's end: were the head, the roles and a record read?",
         6 => "Is the draft 25 bytes long?",
         7 => {
-            "Are effect and kind 0 or 1, is the reach 0 to 2, is every set non-empty, \
+            "Are effect and kind 0 or 1, is the reach 0 to 3, is every set non-empty, \
              and are the purposes within 0 to 10?"
         }
         8 => "Does the register have the role (if one is named) and the record?",

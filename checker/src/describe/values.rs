@@ -39,6 +39,7 @@ pub fn reach(reach: Reach, record: u8) -> String {
         Reach::Itself => format!("record {record}"),
         Reach::Children => format!("the children of record {record}"),
         Reach::Descendants => format!("everything under record {record}, without itself"),
+        Reach::Folder => format!("record {record} and everything under it"),
     }
 }
 

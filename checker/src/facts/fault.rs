@@ -321,7 +321,7 @@ fn ranges(fields: &Fields) -> Option<Wrong> {
         (
             REACH,
             Reach::decode(reach).is_none(),
-            format!("Directive {number} has reach {reach}. Reaches are 0 to 2."),
+            format!("Directive {number} has reach {reach}. Reaches are 0 to 3."),
         ),
         (PO, fields.po == 0, empty("selects records of no origin")),
         (

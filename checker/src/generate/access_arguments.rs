@@ -57,7 +57,7 @@ fn covering(ledger: &Ledger, scene: &Scene, random: &mut Random, requester: Requ
         let (record, effect) = random.pick(&by_default);
         draft.effect = effect;
         if random.chance(70) {
-            (draft.record, draft.reach) = (record, 0);
+            (draft.record, draft.reach) = (record, random.pick(&[0, 3]));
         }
     }
     let above: Vec<u16> = register

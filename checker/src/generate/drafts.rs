@@ -112,11 +112,11 @@ pub fn plain(scene: &Scene, random: &mut Random) -> Fields {
     draft
 }
 
-/// A draft that has begun, over everything under the root.
+/// A draft that has begun, over everything under the root, or the root too.
 pub fn wide(scene: &Scene, random: &mut Random) -> Fields {
     Fields {
         record: 0,
-        reach: 2,
+        reach: random.pick(&[2, 3]),
         po: u16::MAX,
         ps: u16::MAX,
         pt: u8::MAX,
@@ -248,12 +248,15 @@ fn target(scene: &Scene, random: &mut Random) -> (u8, u8, u8) {
         .record(record)
         .map_or(0, |found| found.parent);
     let (top, reach) = match random.range(0, 9) {
-        0..=2 => (record, 0),
-        3 => (record, random.up_to(2)),
-        _ if record == 0 => (0, 0),
+        0 | 1 => (record, 0),
+        2 => (record, 3),
+        3 => (record, random.up_to(3)),
+        _ if record == 0 => (0, random.pick(&[0, 3])),
         4 | 5 => (parent, 1),
-        6 | 7 => (parent, 2),
-        _ => (0, 2),
+        6 => (parent, 2),
+        7 => (parent, 3),
+        8 => (0, 2),
+        _ => (0, 3),
     };
     (record, top, reach)
 }
@@ -283,7 +286,7 @@ pub fn wrong(scene: &Scene, random: &mut Random, draft: Fields) -> Fields {
     match random.range(0, 24) {
         0 => wrong.effect = random.pick(&[2, 3, 255]),
         1 => wrong.kind = random.pick(&[2, 255]),
-        2 => wrong.reach = random.pick(&[3, 4, 255]),
+        2 => wrong.reach = random.pick(&[4, 5, 255]),
         3 => wrong.subject_origins = 0,
         4 => wrong.po = 0,
         5 => wrong.ps = 0,
@@ -315,7 +318,8 @@ pub fn wrong(scene: &Scene, random: &mut Random, draft: Fields) -> Fields {
 }
 
 /// A draft for the patient or an author, whom a deny may not name. About half
-/// of the time the authored record is left out.
+/// of the time the authored record is left out. At times it is far below the
+/// record of the draft.
 pub fn near_baseline(scene: &Scene, random: &mut Random) -> Fields {
     let mut draft = plain(scene, random);
     let record = scene.record(random);
@@ -328,8 +332,11 @@ pub fn near_baseline(scene: &Scene, random: &mut Random) -> Fields {
     } else {
         author
     };
-    draft.record = record;
-    draft.reach = random.pick(&[0, 0, 1, 2]);
+    (draft.record, draft.reach) = if random.chance(30) {
+        (0, random.pick(&[2, 3]))
+    } else {
+        (record, random.pick(&[0, 0, 1, 2, 3]))
+    };
     if let (Some(found), true) = (found, random.chance(50)) {
         match random.range(0, 2) {
             0 => draft.po = !random.bit(found.origins),
@@ -354,8 +361,10 @@ pub fn opposite(scene: &Scene, random: &mut Random) -> Fields {
         let other = plain(scene, random);
         (draft.kind, draft.subject) = (other.kind, other.subject);
     }
-    if random.chance(40) {
-        (_, draft.record, draft.reach) = target(scene, random);
+    match random.range(0, 9) {
+        0..=3 => (_, draft.record, draft.reach) = target(scene, random),
+        4 | 5 => draft.reach = random.up_to(3),
+        _ => {}
     }
     draft.subject_origins = near_set(random, earlier.subject_origins, 0xFFFF);
     draft.purposes = near_set(random, earlier.purposes, ALL_PURPOSES);
@@ -421,7 +430,7 @@ pub fn cover(scene: &Scene, random: &mut Random) -> Vec<Fields> {
 /// Drafts that together match what the draft matches.
 fn split(scene: &Scene, random: &mut Random, draft: Fields) -> Vec<Fields> {
     let first = draft.from.max(scene.clock);
-    match random.range(0, 6) {
+    match random.range(0, 8) {
         0 => {
             let part = random.subset(draft.subject_origins);
             let with = |subject_origins| Fields {
@@ -447,22 +456,8 @@ fn split(scene: &Scene, random: &mut Random, draft: Fields) -> Vec<Fields> {
             };
             vec![before, after]
         }
-        4 | 5 => {
-            let mut children = scene.children(draft.record);
-            if draft.reach == 0 || children.len() > 6 {
-                return vec![draft];
-            }
-            if draft.reach == 2 {
-                children.retain(|child| !scene.children(*child).is_empty());
-            }
-            let each = children.iter().map(|record| Fields {
-                record: *record,
-                reach: if draft.reach == 1 { 0 } else { 2 },
-                ..draft
-            });
-            let own = (draft.reach == 2).then_some(Fields { reach: 1, ..draft });
-            own.into_iter().chain(each).collect()
-        }
+        4..=6 => split_reach(scene, random, draft),
+        7 => vec![Fields { reach: 3, ..draft }],
         _ => vec![Fields {
             kind: 1,
             subject: wider_role(scene, &draft),
@@ -470,6 +465,32 @@ fn split(scene: &Scene, random: &mut Random, draft: Fields) -> Vec<Fields> {
             ps: 0xFFFF,
             ..draft
         }],
+    }
+}
+
+/// Drafts whose reaches together have what is in the draft's: a folder is the
+/// record and its descendants; descendants are the folders of the children, or
+/// the children and what is under each.
+fn split_reach(scene: &Scene, random: &mut Random, draft: Fields) -> Vec<Fields> {
+    let with = |record, reach| Fields {
+        record,
+        reach,
+        ..draft
+    };
+    let record = draft.record;
+    let mut children = scene.children(record);
+    match draft.reach {
+        3 => vec![with(record, 0), with(record, 2)],
+        2 if children.len() <= 6 && random.chance(50) => {
+            children.into_iter().map(|child| with(child, 3)).collect()
+        }
+        2 if children.len() <= 6 => {
+            children.retain(|child| !scene.children(*child).is_empty());
+            let below = children.into_iter().map(|child| with(child, 2));
+            [with(record, 1)].into_iter().chain(below).collect()
+        }
+        1 if children.len() <= 6 => children.into_iter().map(|child| with(child, 0)).collect(),
+        _ => vec![draft],
     }
 }
 
@@ -490,7 +511,7 @@ fn wider_role(scene: &Scene, draft: &Fields) -> u16 {
 /// The draft without one step of what it matches.
 fn narrowed(scene: &Scene, random: &mut Random, draft: Fields) -> Fields {
     let mut narrow = draft;
-    match random.range(0, 7) {
+    match random.range(0, 9) {
         0 => narrow.subject_origins &= !random.bit(narrow.subject_origins),
         1 => narrow.purposes &= !random.bit(narrow.purposes),
         2 => narrow.from = narrow.from.max(scene.clock).saturating_add(1),
@@ -498,6 +519,7 @@ fn narrowed(scene: &Scene, random: &mut Random, draft: Fields) -> Fields {
         4 => narrow.po &= !random.bit(scene.origins),
         5 => narrow.ps &= !random.bit(scene.sensitivities),
         6 => narrow.subject = narrow.subject.saturating_add(1),
+        7 | 8 if narrow.reach == 3 => narrow.reach = 2,
         _ => narrow.pt = 0xFE,
     }
     narrow

@@ -4,7 +4,7 @@ use crate::describe::{records, Words};
 use crate::directive::{Directive, Fields, Subject, ALL_PURPOSES, LENGTH};
 use crate::ledger::{Ledger, MAX_ACTIVE};
 use crate::refusal::Refusal;
-use crate::register::Register;
+use crate::register::{Reach, Register};
 use crate::witness::{baseline_request, cover, shared_request, Cover};
 
 /// What is wrong with the bytes of a draft.
@@ -54,9 +54,10 @@ fn ranges(fields: &Fields) -> Vec<String> {
             fields.kind
         ));
     }
-    if fields.reach > 2 {
+    if Reach::decode(fields.reach).is_none() {
         wrong.push(format!(
-            "The reach is {}; it is 0 (the record), 1 (its children) or 2 (its descendants).",
+            "The reach is {}; it is 0 (the record), 1 (its children), 2 (its descendants) or 3 \
+             (the record with its descendants).",
             fields.reach
         ));
     }
