@@ -51,6 +51,8 @@ pub mod counts;
 
 pub mod preview_counts;
 
+pub mod reach_counts;
+
 pub mod access_counts;
 
 pub mod extent;

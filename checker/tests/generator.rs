@@ -8,6 +8,7 @@ use checker::compare::answers;
 use checker::counts::{Asked, Counts, Kind};
 use checker::generate::{inputs, Input, InputKind};
 use checker::preview_counts::PreviewCounts;
+use checker::reach_counts::ReachCounts;
 use checker::refusal::Refusal;
 
 const CALLS: [&str; 8] = [
@@ -83,6 +84,57 @@ fn every_refusal_and_outcome_of_a_preview_occurs_often() {
     assert_eq!(previews.missing(), [""; 0]);
     for (feature, count) in previews.features() {
         assert!(count >= 100, "{feature}: {count}");
+    }
+}
+
+/// Of 10,000 replays, without the long ones.
+#[test]
+fn every_reach_is_accepted_and_refused_often() {
+    let short = inputs(1, 0, 10_000).filter(|input| input.bytes.len() < 60_000);
+    let mut counts = ReachCounts::default();
+    for input in short {
+        counts.add(&input.bytes, &answered(&input));
+    }
+    assert_eq!(counts.missing(), [""; 0]);
+    for (commits, count) in counts.commits() {
+        assert!(count >= 150, "{commits}: {count}");
+    }
+}
+
+/// Accepted cards of both editions carry every reach.
+#[test]
+fn every_reach_is_on_cards_of_both_editions() {
+    let mut found = [[0; 4]; 2];
+    for input in inputs(1, 2000, 0) {
+        let Ok(ledger) = card::read(&input.bytes) else {
+            continue;
+        };
+        let edition = usize::from(input.bytes[3]) - 1;
+        for directive in ledger.active() {
+            found[edition][usize::from(directive.reach.encode())] += 1;
+        }
+    }
+    assert!(
+        found.iter().flatten().all(|count| *count >= 40),
+        "{found:?}"
+    );
+}
+
+/// 1,000 replays without a commit miss each of them, and no replays none.
+#[test]
+fn missing_reaches_are_named() {
+    let mut counts = ReachCounts::default();
+    assert_eq!(counts.missing(), [""; 0]);
+    for _ in 0..1000 {
+        counts.add(&[0, 0], &[Answer::Card(Err(Refusal::CardIncomplete))]);
+    }
+    let missing = counts.missing();
+    assert_eq!(missing.len(), 16);
+    for folder in [
+        "commits of reach 3 accepted (0 of 10)",
+        "commits of reach 3 refused by 12 (0 of 10)",
+    ] {
+        assert!(missing.contains(&folder.to_string()), "{missing:?}");
     }
 }
 

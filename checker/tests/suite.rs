@@ -15,6 +15,7 @@ mod explain;
 mod facts;
 mod facts_generated;
 mod facts_of_cards;
+mod folder;
 mod full_register;
 mod generator;
 mod handover;

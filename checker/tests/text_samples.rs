@@ -8,6 +8,7 @@ use checker::card;
 use checker::cardcheck::cardcheck;
 use checker::directive::Fields;
 use checker::ledger::{Basis, Ledger};
+use checker::refusal::Refusal;
 use checker::replay::Replay;
 use checker::request::Query;
 use checker::text_form::{assemble, disassemble, unmet, Assembled, Kind};
@@ -140,7 +141,13 @@ fn every_case_has_a_file_and_every_file_a_case() {
 
 #[test]
 fn the_texts_give_the_stored_bytes() {
-    for name in ["sample.card", "sample.replay", "demo.card", "visit.card"] {
+    for name in [
+        "sample.card",
+        "sample.replay",
+        "demo.card",
+        "visit.card",
+        "folder.card",
+    ] {
         let sample = is_answered_as_expected(&format!("{name}.txt"));
         assert_eq!(sample.bytes, stored(name), "{name}");
     }
@@ -151,6 +158,21 @@ fn the_texts_give_the_stored_bytes() {
         .map(|line| format!("{}\n", line.text))
         .collect();
     assert_eq!(expected, text("sample.replay.expected"));
+}
+
+/// What the comment on its directive says: in place of one on the letter and one
+/// on what is inside it.
+#[test]
+fn the_folder_of_the_sample_is_the_letter_and_all_inside_it() {
+    let ledger = card::read(&stored("folder.card")).expect("the card is accepted");
+    let doctor = |record, origin| ledger.decide(query((600, 1, origin), record, 0));
+    assert_eq!(doctor(0, 0), permit(Basis::Default));
+    assert_eq!(doctor(1, 0), deny(Basis::Directive(1)));
+    assert_eq!(doctor(2, 1), deny(Basis::Directive(1)));
+    for reach in [0, 2] {
+        let part = draft(DENY, (ROLE, 1), 1, reach);
+        assert_eq!(would_commit(&ledger, part), Err(Refusal::Redundant));
+    }
 }
 
 /// Writes the bytes of the demonstration; run by name when its text changes.

@@ -20,6 +20,7 @@ use crate::files;
 use crate::generate::{inputs, Input, InputKind};
 use crate::parts::parts;
 use crate::preview_counts::PreviewCounts;
+use crate::reach_counts::ReachCounts;
 
 /// What is compared, and how.
 #[derive(Clone, Debug, PartialEq, Eq)]
@@ -45,6 +46,7 @@ pub struct Session<'a, W> {
     progress: Progress,
     counts: Counts,
     preview_counts: PreviewCounts,
+    reach_counts: ReachCounts,
     access_counts: AccessCounts,
     extent: Extent,
     tally: Tally,
@@ -63,6 +65,7 @@ impl<'a, W: Write> Session<'a, W> {
             progress: Progress::new(),
             counts: Counts::default(),
             preview_counts: PreviewCounts::default(),
+            reach_counts: ReachCounts::default(),
             access_counts: AccessCounts::default(),
             extent: Extent::default(),
             tally: Tally::default(),
@@ -101,6 +104,7 @@ impl<'a, W: Write> Session<'a, W> {
         }
         if input.kind == InputKind::Replay {
             self.preview_counts.add(&input.bytes, &expected.answers);
+            self.reach_counts.add(&input.bytes, &expected.answers);
         }
         let mut task = Task {
             input,
@@ -153,7 +157,7 @@ impl<'a, W: Write> Session<'a, W> {
         let extent = self.extent.table(asked);
         write!(self.output, "{}{extent}", self.counts)?;
         if asked.replays {
-            write!(self.output, "{}", self.preview_counts)?;
+            write!(self.output, "{}{}", self.preview_counts, self.reach_counts)?;
         }
         if self.programs.access.is_some() {
             write!(self.output, "{}", self.access_counts)?;
@@ -167,6 +171,7 @@ impl<'a, W: Write> Session<'a, W> {
         let mut missing: Vec<String> = kinds.iter().map(Kind::to_string).collect();
         missing.extend(self.extent.missing(asked));
         missing.extend(self.preview_counts.missing());
+        missing.extend(self.reach_counts.missing());
         if self.programs.access.is_some() {
             missing.extend(self.access_counts.missing());
         }

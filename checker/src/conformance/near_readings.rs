@@ -1,12 +1,14 @@
-//! The readings that document 01 rules out by name.
+//! The readings that document 01 rules out by name, and those that are near
+//! reach 3.
 
 use crate::directive::Fields;
 use crate::request::Query;
 
+use super::bases::SELECTS;
 use super::sample::*;
 use super::scenario::{on, on_sample, Scenario};
 use super::Source::Says;
-use super::{Case, Topic};
+use super::{Case, Topic, FOLDER};
 
 pub fn cases() -> Vec<Case> {
     [
@@ -15,6 +17,9 @@ pub fn cases() -> Vec<Case> {
         persons_seen(),
         meeting_at_until(),
         fourteen_while_reading(),
+        folder_without_itself(),
+        folder_of_children(),
+        folder_not_filtered_itself(),
     ]
     .concat()
 }
@@ -246,6 +251,133 @@ fn fourteen_while_reading() -> Vec<Case> {
              the near reading it is 14.",
             says,
             on(&halves).written(&halves),
+        ),
+    ]
+}
+
+fn folder_without_itself() -> Vec<Case> {
+    let topic = Topic("near reading: the folder without the record itself");
+    let permit = |record, reach| draft(PERMIT, (ROLE, 3), record, reach);
+    let nurse = |record| Query {
+        role: 3,
+        origin: 5,
+        record,
+        ..query_q()
+    };
+    vec![
+        topic.case(
+            "near-folder-itself-decides",
+            "A permit on the folder of record 1 permits record 1; under the near reading it is \
+             denied by default.",
+            FOLDER,
+            on_sample()
+                .decide(nurse(1), "0 0 4")
+                .commit(permit(1, 3), "0")
+                .decide(nurse(1), "0 1 3 2"),
+        ),
+        topic.case(
+            "near-folder-itself-adds",
+            "A permit on the folder of record 1 adds record 1 to one on its descendants, and both \
+             decide there and below; under the near reading it is 14.",
+            FOLDER,
+            on_sample()
+                .commit(permit(1, 2), "0")
+                .commit(numbered(1, permit(1, 3)), "0")
+                .decide(nurse(1), "0 1 3 1")
+                .decide(nurse(2), "0 1 3 1"),
+        ),
+        topic.case(
+            "near-folder-itself-on-a-card",
+            "A card with a permit on the folder of record 2, a leaf, and a deny on record 2 is 13; \
+             under the near reading the folder is empty and the card accepted.",
+            FOLDER,
+            Scenario::of_card(
+                &sample()
+                    .with(&[permit(2, 3), numbered(3, draft(DENY, (ROLE, 3), 2, 0))])
+                    .bytes(),
+                "13 0 0",
+            ),
+        ),
+    ]
+}
+
+fn folder_of_children() -> Vec<Case> {
+    let topic = Topic("near reading: the folder with its children alone");
+    let deny = |record, reach| draft(DENY, (ROLE, 1), record, reach);
+    let grandchild = Query {
+        record: 2,
+        ..query_q()
+    };
+    vec![
+        topic.case(
+            "near-folder-children-decides",
+            "A deny on the folder of record 0 denies its grandchild; under the near reading it \
+             is left to the default.",
+            FOLDER,
+            on_sample()
+                .commit(numbered(7, deny(0, 3)), "0")
+                .decide(grandchild, "0 0 3 7"),
+        ),
+        topic.case(
+            "near-folder-children-covers",
+            "A deny on the grandchild is within one on the folder of record 0, 14; under the near \
+             reading it is accepted.",
+            FOLDER,
+            on_sample()
+                .commit(numbered(7, deny(0, 3)), "0")
+                .commit(deny(2, 0), "14"),
+        ),
+        topic.case(
+            "near-folder-children-baseline",
+            "A deny of the author of the grandchild on the folder of record 0 is 12, and on its \
+             children accepted; under the near reading both are accepted.",
+            FOLDER,
+            on_sample()
+                .commit(draft(DENY, (PERSON, 502), 0, 3), "12")
+                .commit(draft(DENY, (PERSON, 502), 0, 1), "0"),
+        ),
+    ]
+}
+
+fn folder_not_filtered_itself() -> Vec<Case> {
+    let topic = Topic("near reading: the folder's own record not filtered");
+    // po leaves out record 0, which has origin 0 alone, and has record 2.
+    let of_2 = Fields {
+        po: 0x0002,
+        ..draft(DENY, (ROLE, 1), 0, 3)
+    };
+    let root = Query {
+        record: 0,
+        origin: 0,
+        ..query_q()
+    };
+    vec![
+        topic.case(
+            "near-folder-filter-decides",
+            "po 0x0002 leaves record 0 out of its folder, so it stays with the default; under the \
+             near reading it is denied.",
+            SELECTS,
+            on_sample().commit(of_2, "0").decide(root, "0 1 4"),
+        ),
+        topic.case(
+            "near-folder-filter-selects-nothing",
+            "With a po that no record keeps the folder is empty, 14; under the near reading it has \
+             record 0 and the draft is accepted.",
+            SELECTS,
+            on_sample().commit(Fields { po: 0x8000, ..of_2 }, "14"),
+        ),
+        topic.case(
+            "near-folder-filter-baseline",
+            "A deny of author 500 on the folder of record 0 is accepted where po leaves record 0 \
+             out; under the near reading it is 12.",
+            SELECTS,
+            on_sample().commit(
+                Fields {
+                    po: 0x0002,
+                    ..draft(DENY, (PERSON, 500), 0, 3)
+                },
+                "0",
+            ),
         ),
     ]
 }

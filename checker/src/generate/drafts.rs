@@ -318,13 +318,13 @@ pub fn wrong(scene: &Scene, random: &mut Random, draft: Fields) -> Fields {
 }
 
 /// A draft for the patient or an author, whom a deny may not name. About half
-/// of the time the authored record is left out. At times it is far below the
-/// record of the draft.
+/// of the time the authored record is left out. At times it is below the record
+/// of the draft.
 pub fn near_baseline(scene: &Scene, random: &mut Random) -> Fields {
     let mut draft = plain(scene, random);
     let record = scene.record(random);
     let found = scene.register.record(record).copied();
-    let author = found.map_or(0, |found| found.author);
+    let (author, parent) = found.map_or((0, 0), |found| (found.author, found.parent));
     draft.effect = 0;
     draft.kind = 0;
     draft.subject = if random.chance(25) {
@@ -332,10 +332,10 @@ pub fn near_baseline(scene: &Scene, random: &mut Random) -> Fields {
     } else {
         author
     };
-    (draft.record, draft.reach) = if random.chance(30) {
-        (0, random.pick(&[2, 3]))
-    } else {
-        (record, random.pick(&[0, 0, 1, 2, 3]))
+    (draft.record, draft.reach) = match random.range(0, 9) {
+        0 | 1 => (parent, 1),
+        2..=4 => (0, random.pick(&[2, 3])),
+        _ => (record, random.pick(&[0, 0, 1, 2, 3])),
     };
     if let (Some(found), true) = (found, random.chance(50)) {
         match random.range(0, 2) {
