@@ -43,7 +43,7 @@ impl fmt::Display for Commits {
 }
 
 /// How many of each are wanted at least in 1,000 replays.
-const IN_THOUSAND: u64 = 10;
+const IN_THOUSAND: u64 = 5;
 
 #[derive(Clone, Debug, PartialEq, Eq)]
 pub struct ReachCounts {

@@ -131,8 +131,8 @@ fn missing_reaches_are_named() {
     let missing = counts.missing();
     assert_eq!(missing.len(), 16);
     for folder in [
-        "commits of reach 3 accepted (0 of 10)",
-        "commits of reach 3 refused by 12 (0 of 10)",
+        "commits of reach 3 accepted (0 of 5)",
+        "commits of reach 3 refused by 12 (0 of 5)",
     ] {
         assert!(missing.contains(&folder.to_string()), "{missing:?}");
     }

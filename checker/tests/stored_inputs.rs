@@ -76,7 +76,7 @@ fn is_rich(ledger: &Ledger) -> bool {
     ledger.register().records().len() == 128
         && (0..=1).all(|effect| some(|one| one.effect, effect))
         && (0..=1).all(|kind| some(|one| one.kind, kind))
-        && (0..=2).all(|reach| some(|one| one.reach, reach))
+        && (0..=3).all(|reach| some(|one| one.reach, reach))
 }
 
 #[test]
