@@ -5,14 +5,15 @@ use mathlib.Core.Bool.{Bool, true, false, _&&_, _||_, not, Bool·beq, and-false,
 use mathlib.Core.Logic.{_⊎_, inl, inr, ⊎-elim}
 use mathlib.Core.List.{List, [], _∷_, List·Memᴰ}
 use borrow.Author.Tests.{eqb-true, eq-eqb, not-true}
-use lib.ListN.{length}
+use lib.ListN.{length, drop}
 use lib.Dec.{eqb, leb}
-use Rattle.sets.specs.Quantifiers.{pick, someIn}
+use Rattle.sets.specs.Quantifiers.{pick, allIn, someIn}
 use Rattle.sets.proofs.Quantifiers.{either-way, both-ways, never-true, and-both, or-cases, implies-of, some-list}
 use Rattle.register.specs.Register.{Contents}
 use Rattle.directive.specs.declared.Directive.{Directive}
 use Rattle.directive.specs.declared.Request.{Request}
 use Rattle.directive.specs.Matching.{matches}
+use Rattle.directive.specs.Lowest.{lowestNumber}
 use Rattle.drafts.specs.declared.Draft.{Draft}
 use Rattle.drafts.specs.Form.{draftSize, draftOf, keepsRanges}
 use Rattle.validation_meaning.specs.Requests.{InRange}
@@ -21,7 +22,7 @@ use Rattle.validation_meaning.specs.Judgement.{meant}
 use Rattle.validation_meaning.proofs.Requests.{every-request, some-request}
 use Rattle.ledger_model.specs.Model.{Model}
 use Rattle.ledger_model.specs.Answer.{Answer, done, refused, refusal}
-use Rattle.ledger_model.specs.Questions.{firstNo, passes, questionsBefore, directiveQuestions, draftQuestions, bytesQuestions, Outcome}
+use Rattle.ledger_model.specs.Questions.{Question, firstNo, passes, questionsBefore, directiveQuestions, conflicting, draftQuestions, bytesQuestions, Outcome}
 use Rattle.ledger_model.specs.Calls.{drafted, committedDraftBy, committedBy}
 use Rattle.ledger_model.proofs.Questions.{first-append, first-passed}
 use Rattle.ledger_model.proofs.Passed.{from-12, committed-bytes}
@@ -40,37 +41,26 @@ use Rattle.demands.proofs.Ordering.{drafts-bytes, advanced-small, told-
 use Rattle.demands.proofs.Runs.{meant-sound}
 use Rattle.demands.proofs.FolderLaws.{two-parts, part-matches, breaks-parts, clashes-parts, repeats-parts}
 
--- the answer of questions 7 to 14 by whether each is passed
-abbrev answerOf : Bool → Bool → Bool → Bool → Bool → Bool → Bool → Bool → List ℕ → Answer
-answerOf b7 b8 b9 b10 b11 b12 b13 b14 named =
-    pick b7
-    (pick b8
-    (pick b9
-    (pick b10
-    (pick b11
-    (pick b12 (pick b13 (pick b14 (done []) (refused 14 [])) (refused 13 named)) (refused 12 []))
-    (refused 11 []))
-    (refused 10 []))
-    (refused 9 []))
-    (refused 8 []))
-    (refused 7 [])
-
-is-seven :
-    (b7 b8 b9 b10 b11 b12 b13 b14 : Bool) (named : List ℕ) →
-    eqb (refusal (answerOf b7 b8 b9 b10 b11 b12 b13 b14 named)) 7 ≡ not b7
-is-seven false b8 b9 b10 b11 b12 b13 b14 named = refl
-is-seven true false b9 b10 b11 b12 b13 b14 named = refl
-is-seven true true false b10 b11 b12 b13 b14 named = refl
-is-seven true true true false b11 b12 b13 b14 named = refl
-is-seven true true true true false b12 b13 b14 named = refl
-is-seven true true true true true false b13 b14 named = refl
-is-seven true true true true true true false b14 named = refl
-is-seven true true true true true true true false named = refl
-is-seven true true true true true true true true named = refl
+-- questions of other numbers never refuse with n
+never-refused :
+    (n : ℕ) (qs : List Question) → eqb 0 n ≡ false → allIn (λ q. not (eqb (q .number) n)) qs ≡ true →
+    eqb (refusal (firstNo qs (done []))) n ≡ false
+unfolding firstNo allIn
+never-refused n [] none others = none
+never-refused n (q ∷ qs) none others =
+    let (this, rest) = and-both (not (eqb (q .number) n)) _ others in
+    ⊎-elim
+    (λ (e : q .holds ≡ true). rw e (never-refused n qs none rest))
+    (λ (e : q .holds ≡ false). rw e (not-true _ this))
+    (either-way (q .holds))
 
 seven : (m : Model) (t : Draft) → eqb (refusal (committedDraftBy meant m t .answer)) 7 ≡ not (keepsRanges t)
-unfolding committedDraftBy firstNo draftQuestions directiveQuestions
-seven m t = is-seven (keepsRanges t) _ _ _ _ _ _ _ _
+unfolding committedDraftBy firstNo allIn draftQuestions directiveQuestions
+seven m t =
+    ⊎-elim
+    (λ (e : keepsRanges t ≡ true). rw e (never-refused 7 (drop 1 (draftQuestions meant m t)) refl refl))
+    (λ (e : keepsRanges t ≡ false). rw e)
+    (either-way (keepsRanges t))
 
 -- the reach apart from the other ranges
 ranges : (t : Draft) → keepsRanges t ≡ leb (t .reach) 3 && keepsRanges (atReach 0 t)
@@ -112,7 +102,11 @@ numbered l h s r commits passed =
     ∙ ap (λ qs. firstNo qs (done [])) (from-12 meant m s)
     ∙ first-append early _ (done [])
     ∙ first-passed early _ passed)
-    ∙ refusal-number (breaksBaseline (m .register) (m .patient) (m .clock) (drafted s)) _ _ _
+    ∙ refusal-number
+    (breaksBaseline (m .register) (m .patient) (m .clock) (drafted s))
+    (someIn (conflict (m .register) (m .clock) (drafted s)) (m .active))
+    (redundant (m .register) (m .clock) (drafted s) (m .active))
+    (lowestNumber (conflicting meant m (drafted s)))
 
 of-both :
     (b₁ b₂ c₁ c₂ r₁ r₂ : Bool) →

@@ -111,7 +111,7 @@ module _ (d : Directive) (n k : ℕ) (one : d .reach ≡ 3) where
         (λ (e : matches c first (h .denied) ≡ true).
         rw (baseline-make c patient clock first (other first h (h .deny) (h .named) e)))
         (λ (e : matches c second (h .denied) ≡ true).
-        or-right _ _ (baseline-make c patient clock second (other second h (h .deny) (h .named) e)))
+        or-right (breaksBaseline c patient clock first) _ (baseline-make c patient clock second (other second h (h .deny) (h .named) e)))
         (by-either (h .denied) (h .matched)))
         (λ t.
         ⊎-elim
@@ -148,7 +148,7 @@ module _ (d : Directive) (n k : ℕ) (one : d .reach ≡ 3) where
         rw (conflict-make c clock first g opposite
         (record { common = h .common; in-range = h .in-range; by-first = e; by-second = h .by-second })))
         (λ (e : matches c second (h .common) ≡ true).
-        or-right _ _ (conflict-make c clock second g opposite
+        or-right (conflict c clock first g) _ (conflict-make c clock second g opposite
         (record { common = h .common; in-range = h .in-range; by-first = e; by-second = h .by-second })))
         (by-either (h .common) (h .by-first)))
         (λ t.
@@ -172,7 +172,7 @@ module _ (d : Directive) (n k : ℕ) (one : d .reach ≡ 3) where
         let (g, i, clash) = some-list es .read _ t in
         ⊎-elim
         (λ e. rw (some-list es .make (conflict c clock first) g i e))
-        (λ e. or-right _ _ (some-list es .make (conflict c clock second) g i e))
+        (λ e. or-right (someIn (conflict c clock first) es) _ (some-list es .make (conflict c clock second) g i e))
         (or-cases (conflict c clock first g) _ (sym (conflict-parts g) ∙ clash)))
         (λ t.
         ⊎-elim
