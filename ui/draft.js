@@ -56,7 +56,7 @@ function takesItself(d) {
 }
 
 function otherReaches(d) {
-  const words = [`Close ${quoted(d.record)} itself instead`, ...REACHES.slice(1).map(reach => `Choose “${reach}” instead`)];
+  const words = [`Close ${quoted(d.record)} itself instead`, ...REACHES.slice(1, 3).map(reach => `Choose “${reach}” instead`)];
   return range(words.length).filter(reach => reach !== d.reach).map(reach => ({ words: words[reach], patch: { reach } }));
 }
 

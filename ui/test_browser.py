@@ -390,14 +390,25 @@ class Cases(OnThePage):
         self.sign()
         self.go("access")
         self.assertEqual([self.says("p600", record) for record in range(3)], [BY_A] * 3)
+        self.write(**{**FORM_A, "number": 2})
         for reach in ("Only itself", "Directly inside", "All inside", "Itself and all inside"):
-            self.write(**{**FORM_A, "number": 2, "reach": reach})
+            self.choose("d-reach", reach)
+            self.ready("write")
             question, title, words = self.refusal()
             self.assertEqual((question, title), (14, "You do not need this directive"))
             self.assertIn("Already covered by directive 1.", words)
+        self.go("access")
         self.write(2, PERMIT, "Dr Sam Okafor", "Record file", "Only itself", 1500, 2500)
-        question, title, words = self.refusal()
+        question, title, _ = self.refusal()
         self.assertEqual((question, title), (13, "This clashes with directive 1"))
+
+    def test_limits_of_a_record_and_all_inside(self):
+        self.write(2, PERMIT, "Nurses", "Record file", "Itself and all inside")
+        self.click("#limits-box > summary")
+        for mark in (1, 2, 3):
+            self.tick(f"d-ps-{mark}")
+        self.ready("write")
+        self.assertIn("“Record file” and everything inside it, each if it is marked only General", self.text("#inwords"))
 
     def test_k5(self):
         self.sign_a()

@@ -326,8 +326,10 @@ export function subjectName(d) {
 
 function reachWords(d) {
   const name = quoted(d.record);
-  if (d.effect === DENY) return [`${name} itself`, `any record directly inside ${name}`, `anything inside ${name}`, `${name} or anything inside it`][d.reach];
-  return [`${name} itself`, `the records directly inside ${name}`, `everything inside ${name}`, `${name} and everything inside it`][d.reach];
+  const words = d.effect === DENY
+    ? [`${name} itself`, `any record directly inside ${name}`, `anything inside ${name}`, `${name} or anything inside it`]
+    : [`${name} itself`, `the records directly inside ${name}`, `everything inside ${name}`, `${name} and everything inside it`];
+  return words[d.reach];
 }
 
 function typeWords(i) {
@@ -359,7 +361,9 @@ export function limitWords(d) {
 export function directiveWords(d) {
   const noOne = d.effect === DENY && d.kind === ROLE && d.subject === 0;
   const may = d.effect === PERMIT || noOne ? 'may read' : 'may not read';
-  return `${[`${subjectWords(d)} ${may} ${reachWords(d)}`, ...limitWords(d), timeWords(d)].join(', ')}.`;
+  // with reach 3 the record is named beside what is inside it, so a limit of records is said of each
+  const limits = limitWords(d).map(words => (d.reach === 3 && words.startsWith('if it is') ? `each ${words}` : words));
+  return `${[`${subjectWords(d)} ${may} ${reachWords(d)}`, ...limits, timeWords(d)].join(', ')}.`;
 }
 
 export function shortDirective(d) {

@@ -1,4 +1,4 @@
-//! The refusals: document 01's 24 questions, each by the "no" it gives.
+//! The refusals: the 24 questions, each by the "no" it gives.
 
 use std::fmt;
 

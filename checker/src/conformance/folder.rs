@@ -468,7 +468,7 @@ fn cards() -> Vec<Case> {
             "card-folder-edition-1",
             "An edition 1 card may carry reach 3 too, and is written as edition 2 with it; a \
              reader that keeps 0..2 for the old edition answers 7.",
-            FOLDER,
+            Decisions("9.7"),
             on(&edition_1)
                 .decide(ask(1), "0 0 3 2")
                 .decide(ask(2), "0 0 3 2")

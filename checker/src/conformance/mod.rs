@@ -105,7 +105,7 @@ impl Topic {
     }
 }
 
-/// Every case, topic by topic.
+/// Every case.
 pub fn cases() -> Vec<Case> {
     [
         card_fields::cases(),

@@ -35,7 +35,7 @@ use Rattle.ledger.specs.State.{view}
 use Rattle.ledger.specs.Invariant.{Invariant}
 use Rattle.ledger.specs.Promises.{Commits}
 use Rattle.demands.specs.Demands.{refusedWith}
-use Rattle.demands.specs.Folder.{withReach, OneForTwo, atReach, together, PassesTo12, Folders}
+use Rattle.demands.specs.Folder.{withReach, OneForTwo, atReach, together, PassesBefore12, Folders}
 use Rattle.demands.proofs.Exactness.{draft-exact}
 use Rattle.demands.proofs.Ordering.{drafts-bytes, advanced-small, told-after}
 use Rattle.demands.proofs.Runs.{meant-sound}
@@ -91,7 +91,7 @@ numberIn m d =
     (redundant (m .register) (m .clock) d (m .active))
 
 numbered :
-    (l : Ledger) → Invariant l → (s : List ℕ) (r : CommitResult) → Commits l s r → PassesTo12 l s →
+    (l : Ledger) → Invariant l → (s : List ℕ) (r : CommitResult) → Commits l s r → PassesBefore12 l s →
     refusedWith r ≡ numberIn (view l) (drafted s)
 unfolding committedBy firstNo
 numbered l h s r commits passed =

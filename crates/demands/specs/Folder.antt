@@ -76,8 +76,8 @@ abbrev pub together : ℕ → ℕ → ℕ
 together a b = pick (eqb a 12 || eqb b 12) 12 (pick (eqb a 13 || eqb b 13) 13 (pick (eqb a 14 && eqb b 14) 14 0))
 
 -- the draft passes questions 6 to 11 and is left with baseline, conflict and redundancy
-abbrev pub PassesTo12 : Ledger → List ℕ → Type 0
-PassesTo12 l s = passes (questionsBefore 12 (bytesQuestions meant (view l) s)) ≡ true
+abbrev pub PassesBefore12 : Ledger → List ℕ → Type 0
+PassesBefore12 l s = passes (questionsBefore 12 (bytesQuestions meant (view l) s)) ≡ true
 
 pub record Folder (l : Ledger) : Type 0 where
   -- "Reach 3 is the record with all its descendants": the one matches a request exactly when one of the two does.
@@ -91,7 +91,7 @@ pub record Folder (l : Ledger) : Type 0 where
   -- "What "selects" means changes, and with it conflict, baseline and superfluous": the one is judged as the two are together.
   pub judged :
       (s t u : List ℕ) (r v w : CommitResult) → OneForTwo (drafted s) (drafted t) (drafted u) →
-      Commits l s r → Commits l t v → Commits l u w → PassesTo12 l s → PassesTo12 l t → PassesTo12 l u →
+      Commits l s r → Commits l t v → Commits l u w → PassesBefore12 l s → PassesBefore12 l t → PassesBefore12 l u →
       refusedWith r ≡ together (refusedWith v) (refusedWith w)
   -- The one, or the two in turn, where each list stands beside the active, leave every decide call the same effect and basis, now and
   -- after the same advances.
