@@ -208,6 +208,7 @@ impl Directive {
 
     /// "It selects a record within its reach whose origins all lie in po,
     /// whose sensitivities all lie in ps and whose type is in pt."
+    #[inline]
     pub fn selects(&self, register: &Register, record: u8) -> bool {
         let Some(found) = register.record(record) else {
             return false;

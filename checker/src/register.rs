@@ -79,14 +79,11 @@ impl Record {
     }
 }
 
-/// What a reach is made of: the record itself, its children, and all its
-/// descendants without itself.
-#[derive(Clone, Copy, Debug, PartialEq, Eq)]
-enum Part {
-    Itself,
-    Children,
-    Descendants,
-}
+/// What a reach can take, seen from a record: one mark each for the record
+/// itself, its children, and all its descendants without itself.
+const ITSELF: u8 = 1;
+const CHILDREN: u8 = 2;
+const DESCENDANTS: u8 = 4;
 
 /// "Reach 0 is the record itself, 1 its children, 2 all its descendants
 /// without itself", and "reach 3 is the record with all its descendants".
@@ -114,15 +111,20 @@ impl Reach {
         self as u8
     }
 
-    /// The one description of a reach: what is within it follows from its
-    /// parts.
-    fn parts(self) -> &'static [Part] {
+    /// The one description of a reach, by its marks: what is within it follows
+    /// from them.
+    const fn marks(self) -> u8 {
         match self {
-            Reach::Itself => &[Part::Itself],
-            Reach::Children => &[Part::Children],
-            Reach::Descendants => &[Part::Descendants],
-            Reach::Folder => &[Part::Itself, Part::Descendants],
+            Reach::Itself => ITSELF,
+            Reach::Children => CHILDREN,
+            Reach::Descendants => DESCENDANTS,
+            Reach::Folder => ITSELF | DESCENDANTS,
         }
+    }
+
+    #[inline]
+    const fn takes(self, mark: u8) -> bool {
+        self.marks() & mark != 0
     }
 }
 
@@ -217,26 +219,21 @@ impl Register {
         }
     }
 
-    /// Whether `record` is within the reach from `top`.
+    /// Whether `record` is within the reach from `top`. A parent has a lower
+    /// number, so only a record of a higher number than `top` is under it. The
+    /// root is thus no child and no descendant of itself, although its parent
+    /// byte is 0. Children are descendants too.
+    #[inline]
     pub fn reaches(&self, top: u8, reach: Reach, record: u8) -> bool {
-        let mut parts = reach.parts().iter();
-        parts.any(|part| self.has_part(top, *part, record))
-    }
-
-    /// Whether `record` is in this part, seen from `top`. The root is no child
-    /// and no descendant of itself, although its parent byte is 0.
-    fn has_part(&self, top: u8, part: Part, record: u8) -> bool {
         let number = usize::from(record);
-        match part {
-            Part::Itself => record == top && number < self.records.len(),
-            Part::Children => {
-                let parent = self.records.get(number).map(|found| found.parent);
-                record != 0 && parent == Some(top)
-            }
-            Part::Descendants => {
-                let ancestors = self.ancestors.get(number).copied().unwrap_or(0);
-                ancestors & record_bit(top) != 0
-            }
+        if record <= top {
+            record == top && reach.takes(ITSELF) && number < self.records.len()
+        } else if reach.takes(DESCENDANTS) {
+            let ancestors = self.ancestors.get(number);
+            ancestors.is_some_and(|above| above & record_bit(top) != 0)
+        } else {
+            let found = self.records.get(number);
+            reach.takes(CHILDREN) && found.is_some_and(|found| found.parent == top)
         }
     }
 }
