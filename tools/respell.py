@@ -19,6 +19,7 @@ NAME = r'[^\s(){}.;,@"«»]+'
 QUIET = re.compile(r'"(?:[^"\\\n]|\\.)*"|(?<![^\s(){}.;,@"«»])--[^\n]*|\{-.*?-\}', re.S)
 DECLARED = re.compile(rf"(?m)^ *(?:(?:pub|abbrev|unfoldable|data|record) )*({NAME})(?: \{{[^{{}}\n]*\}})*(?: \([^()\n]*\))* :([^\n]*)")
 BOUND = re.compile(r"\blet ([^=\n]*?)=|λ ([^.\n]*)\.|\(((?:[^\s(){}.;,@\"«»]+ )+): ")
+IMPORT = re.compile(r"\buse ([^\s;{]+)\.\{([^}]*)\}")
 GOAL = re.compile(r"^\s*(?:tie\.|\S*lts\.|\S*\.Need-|\(t : |statement)|Need-|statement M")
 # Two declarations that would have one name; and names that would hide what their record speaks of.
 OWN = {
@@ -87,14 +88,20 @@ def main():
             names = re.findall(NAME, code)
         here[f] = {n: snake_case(n) for n in names if turns(n) and n not in library and n not in table and "Need-" not in n}
 
+    own = "|".join(sorted(os.listdir(os.path.join(top, "crates"))))
     count = 0
     for f in crates:
         kind = {"antt": "antt", "rt": "rt"}.get(f.rsplit(".", 1)[-1])
         if not kind:
             continue
         words = WORDS if kind == "rt" or "/specs/" in f else {}
-        turner = snake.Turner({**table, **here[f], **words}, "file", set(), [])
         old = open(f, encoding="utf-8").read()
+        theirs = set()
+        for path, names in IMPORT.findall(QUIET.sub(" ", old)):
+            if not re.match(rf"Rattle\.({own})\.", path):
+                theirs.update(re.findall(NAME, names))
+        full = {k: v for k, v in {**table, **here[f]}.items() if k not in theirs}
+        turner = snake.Turner({**full, **words}, "file", set(), [])
         new = getattr(turner, kind)(old, f)
         if len(new) != len(old):
             new, _ = snake.realigned(old, new)

@@ -8,7 +8,7 @@ use crate::{Active, ActiveList};
 use directive::Directive;
 
 // Which directives are dropped: that of a number, or those that have ended at a minute.
-#[derive(Drop)]
+#[derive(Clone, Copy)]
 pub enum Drop {
     Number(u16),
     Ended(u32),

@@ -13,14 +13,14 @@ pub mod finds;
 // How many directives can be active.
 pub const PLACES: usize = 32;
 
-#[derive(Drop)]
+#[derive(Clone, Copy)]
 pub struct Active {
     pub directive: Directive,
     pub selected: RecordSet,
 }
 
 // The active directives in their order; what stands past the count has no meaning.
-#[derive(Drop)]
+#[derive(Clone, Copy)]
 pub struct ActiveList {
     pub entries: [Active; PLACES],
     pub count: usize,

@@ -4,7 +4,7 @@ use mathlib.Core.Path.{◌≡◌}
 use mathlib.Core.Logic.{⊎_elim}
 use mathlib.Core.Bool.{true, false, ◌&&◌, and-false}
 use mathlib.Core.List.{List}
-use native.Mathlib.Numerals.{add_one}
+use native.Mathlib.Numerals.{add-one}
 use native.Mathlib.Omega.{arith}
 use borrow.Author.Tests.{leb-true, lt-ltb, le-ltb, le-leb, lt-leb}
 use lib.Dec.{leb}
@@ -25,7 +25,7 @@ module _ (s : List ℕ) (i : ℕ) where
   pub value_here :
       i < length s → (a : ℕ) → value_from a (drop i s) ≡ value_from (a * 10 + digit_of (get_or s i 0)) (drop (i + 1) s)
   unfolding value_from
-  value_here h a = rw (drop-cons s i 0 h, add_one)
+  value_here h a = rw (drop-cons s i 0 h, add-one)
 
   -- nothing is left past the last place
   pub value_end : i ≡ length s → (a : ℕ) → value_from a (drop i s) ≡ a

@@ -7,7 +7,7 @@ ghost use Rattle.arguments.specs.Hexadecimal.{is_hex_digit, hex_digit_of, bytes_
 const MOST_HEX_DIGITS: usize = 1024;
 
 // What a text is decoded to.
-#[derive(Drop)]
+#[derive(Clone, Copy)]
 pub enum Decoded {
     // so many bytes, at the start of the buffer
     Bytes(usize),

@@ -9,7 +9,7 @@ pub mod hexadecimal;
 const MOST_DIGITS: usize = 5;
 
 // What a text is read as.
-#[derive(Drop)]
+#[derive(Clone, Copy)]
 pub enum Parsed {
     // the number that its digits write
     Number(u64),

@@ -3,7 +3,7 @@ ghost use Rattle.std.specs.Prelude.{◌≡◌, ◌+◌, ◌≤◌, length};
 ghost use Rattle.std.proofs.lemmas.List.Edits.{sets};
 ghost use Rattle.card.specs.Form.{head_size, head_of, head_bytes};
 
-#[derive(Drop)]
+#[derive(Clone, Copy)]
 pub struct Head {
     pub edition: u8,
     pub patient: u16,

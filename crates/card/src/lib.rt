@@ -4,7 +4,7 @@ use ledger::answer::DirectiveRefusal;
 
 pub mod form;
 
-#[derive(Drop)]
+#[derive(Clone, Copy)]
 pub enum ReadAnswer {
     Accepted,
     // a field does not stand whole in the card
@@ -19,13 +19,13 @@ pub enum ReadAnswer {
 }
 
 // The ledger is the card's, or the empty one where the card is refused.
-#[derive(Drop)]
+#[derive(Clone, Copy)]
 pub struct ReadResult {
     pub answer: ReadAnswer,
     pub ledger: Ledger,
 }
 
-#[derive(Drop)]
+#[derive(Clone, Copy)]
 pub enum WriteAnswer {
     // the length of the card
     Written(usize),

@@ -7,7 +7,7 @@ ghost use Rattle.card.specs.Reading.{card_line};
 
 use card::{ReadAnswer, ReadResult};
 
-#[derive(Drop)]
+#[derive(Clone, Copy)]
 pub struct CardLine {
     pub refusal: u64,
     pub records: usize,

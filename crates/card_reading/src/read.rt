@@ -15,14 +15,14 @@ use ledger::answer::AdmitAnswer;
 use ledger::enrolment::Enrolled;
 
 // What was read so far: the edition, 0 before the head, and the ledger.
-#[derive(Drop)]
+#[derive(Clone, Copy)]
 pub struct Reader {
     pub edition: u8,
     pub ledger: Ledger,
 }
 
 // A field's answer, and what was read with it where it passes its questions.
-#[derive(Drop)]
+#[derive(Clone, Copy)]
 pub struct Step {
     pub answer: ReadAnswer,
     pub reader: Reader,

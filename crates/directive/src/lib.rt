@@ -8,13 +8,13 @@ pub mod matching;
 pub mod selection;
 
 // One person, or one role with all roles that it covers.
-#[derive(Drop)]
+#[derive(Clone, Copy)]
 pub enum Subject {
     Person(u16),
     Role(u16),
 }
 
-#[derive(Drop)]
+#[derive(Clone, Copy)]
 pub struct Directive {
     pub number: u16,
     // the effect: permit, or deny
@@ -32,7 +32,7 @@ pub struct Directive {
     pub until: u32,
 }
 
-#[derive(Drop)]
+#[derive(Clone, Copy)]
 pub struct Request {
     pub person: u16,
     pub role: u16,
@@ -43,7 +43,7 @@ pub struct Request {
 }
 
 // A request without its minute.
-#[derive(Drop)]
+#[derive(Clone, Copy)]
 pub struct Query {
     pub person: u16,
     pub role: u16,
@@ -53,7 +53,7 @@ pub struct Query {
 }
 
 // Who asks, from where and what for: a query without its record.
-#[derive(Drop)]
+#[derive(Clone, Copy)]
 pub struct Requester {
     pub person: u16,
     pub role: u16,

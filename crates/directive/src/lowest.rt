@@ -7,7 +7,7 @@ ghost use Rattle.directive.specs.Lowest.{best_of};
 use crate::Directive;
 
 // Whether there was a directive, with the effect and the number of the lowest.
-#[derive(Drop)]
+#[derive(Clone, Copy)]
 pub struct Best {
     pub found: bool,
     pub permit: bool,

@@ -8,7 +8,7 @@ pub const SIZE: usize = 25;
 pub const FIRST_EDITION_SIZE: usize = 23;
 
 // The numbers that the 25 bytes of a directive write, whatever they are.
-#[derive(Drop)]
+#[derive(Clone, Copy)]
 pub struct Draft {
     pub number: u16,
     pub effect: u8,

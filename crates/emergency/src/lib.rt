@@ -9,7 +9,7 @@ pub mod scope;
 // How many tokens can be live.
 pub const PLACES: usize = 4;
 
-#[derive(Drop)]
+#[derive(Clone, Copy)]
 pub struct Token {
     pub number: u16,
     pub person: u16,
@@ -18,14 +18,14 @@ pub struct Token {
 }
 
 // The tokens in order of issue; what stands past the count has no meaning.
-#[derive(Drop)]
+#[derive(Clone, Copy)]
 pub struct TokenList {
     pub tokens: [Token; PLACES],
     pub count: usize,
 }
 
 // Bit i is record i (low) and record 64 + i (high).
-#[derive(Drop)]
+#[derive(Clone, Copy)]
 pub struct Brief {
     pub low: u64,
     pub high: u64,

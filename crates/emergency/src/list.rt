@@ -50,7 +50,7 @@ pub fn is_issued(l: TokenList, number: u16) -> bool
 }
 
 // The states of the first token of that number for that person.
-#[derive(Drop)]
+#[derive(Clone, Copy)]
 pub enum TokenStates {
     States(u8),
     Nothing,

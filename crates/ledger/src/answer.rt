@@ -8,7 +8,7 @@ use crate::Ledger;
 use emergency::Brief;
 
 // What questions 7 to 13 refuse, of a draft and of a card's directive alike.
-#[derive(Drop)]
+#[derive(Clone, Copy)]
 pub enum DirectiveRefusal {
     OutOfRange,
     NotInRegister,
@@ -36,19 +36,19 @@ pub fn refusal_of(r: DirectiveRefusal) -> u64
 }
 
 // The answer to a directive that is put to questions 7 to 13 alone.
-#[derive(Drop)]
+#[derive(Clone, Copy)]
 pub enum AdmitAnswer {
     Admitted,
     Refused(DirectiveRefusal),
 }
 
-#[derive(Drop)]
+#[derive(Clone, Copy)]
 pub struct AdmitResult {
     pub answer: AdmitAnswer,
     pub ledger: Ledger,
 }
 
-#[derive(Drop)]
+#[derive(Clone, Copy)]
 pub enum CommitAnswer {
     Committed,
     WrongLength,
@@ -56,38 +56,38 @@ pub enum CommitAnswer {
     Redundant,
 }
 
-#[derive(Drop)]
+#[derive(Clone, Copy)]
 pub struct CommitResult {
     pub answer: CommitAnswer,
     pub ledger: Ledger,
 }
 
-#[derive(Drop)]
+#[derive(Clone, Copy)]
 pub enum RevokeAnswer {
     Revoked,
     NotActive,
 }
 
-#[derive(Drop)]
+#[derive(Clone, Copy)]
 pub struct RevokeResult {
     pub answer: RevokeAnswer,
     pub ledger: Ledger,
 }
 
-#[derive(Drop)]
+#[derive(Clone, Copy)]
 pub enum AdvanceAnswer {
     // how many were dropped
     Advanced { directives: usize, tokens: usize },
     BeforeClock,
 }
 
-#[derive(Drop)]
+#[derive(Clone, Copy)]
 pub struct AdvanceResult {
     pub answer: AdvanceAnswer,
     pub ledger: Ledger,
 }
 
-#[derive(Drop)]
+#[derive(Clone, Copy)]
 pub enum IssueAnswer {
     Issued,
     NoState,
@@ -96,20 +96,20 @@ pub enum IssueAnswer {
     TokensFull,
 }
 
-#[derive(Drop)]
+#[derive(Clone, Copy)]
 pub struct IssueResult {
     pub answer: IssueAnswer,
     pub ledger: Ledger,
 }
 
-#[derive(Drop)]
+#[derive(Clone, Copy)]
 pub enum BriefAnswer {
     Disclosed(Brief),
     NoToken,
 }
 
 // One case a basis.
-#[derive(Drop)]
+#[derive(Clone, Copy)]
 pub enum DecideAnswer {
     Patient,
     Author,

@@ -60,7 +60,7 @@ pub fn request_at(q: Query, minute: u32) -> Request
 }
 
 // How far a decision is before the directives: made, or open, with the origins of the record asked for.
-#[derive(Drop)]
+#[derive(Clone, Copy)]
 pub enum Opening {
     Made(DecideAnswer),
     Open(u16),

@@ -7,7 +7,7 @@ use crate::Ledger;
 use register::Record;
 
 // Whether the ranges are kept, and the ledger with the roles or the record; where they are not, the ledger as it was.
-#[derive(Drop)]
+#[derive(Clone, Copy)]
 pub struct Enrolled {
     pub fits: bool,
     pub ledger: Ledger,

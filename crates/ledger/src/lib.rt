@@ -14,7 +14,7 @@ pub mod enrolment;
 pub mod views;
 
 // The fields are private: a ledger comes from `empty`, from reading a card, from a call, or back from where it was stored (`from_parts`).
-#[derive(Drop)]
+#[derive(Clone, Copy)]
 pub struct Ledger {
     patient: u16,
     clock: u32,

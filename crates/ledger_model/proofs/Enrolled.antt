@@ -3,7 +3,7 @@ use Prim.Native.Nat.{ℕ, zero, suc, ◌^◌, ◌<◌, ◌≤◌}
 use mathlib.Core.Path.{◌≡◌, refl, ap}
 use mathlib.Core.Bool.{true}
 use mathlib.Core.List.{List, [], ◌∷◌, ◌++◌}
-use native.Mathlib.Numerals.{add_one}
+use native.Mathlib.Numerals.{add-one}
 use native.Mathlib.Omega.{arith}
 use borrow.Author.Tests.{ltb-true, lt-ltb}
 use lib.ListN.{length, length-append, take, get_or-append}
@@ -101,7 +101,7 @@ module _ (c : Contents) (h : RegisterInvariant c) where
         records_fit =
             rw (
               length-append,
-              add_one,
+              add-one,
               take-append_seam rs (r ∷ []),
               get_or-append_seam rs r [] no_record,
               fits,

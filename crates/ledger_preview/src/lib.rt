@@ -15,7 +15,7 @@ use ledger::Ledger;
 use ledger::answer::{CommitAnswer, DecideAnswer, DirectiveRefusal};
 use sets::record_set::RecordSet;
 
-#[derive(Drop)]
+#[derive(Clone, Copy)]
 pub enum PreviewAnswer {
     // the records whose decision would change, and how many they are
     Changes { records: RecordSet, count: u32 },
@@ -27,7 +27,7 @@ pub enum PreviewAnswer {
     RequesterOutOfRange,
 }
 
-#[derive(Drop)]
+#[derive(Clone, Copy)]
 pub struct PreviewResult {
     pub answer: PreviewAnswer,
     pub ledger: Ledger,

@@ -28,7 +28,7 @@ pub const SIZE: usize = 2928;
 
 // An active directive with the records that it selects; 48 bytes, in the order of `Active`, so that most of them are copied in a few moves.
 #[repr(C)]
-#[derive(Drop)]
+#[derive(Clone, Copy)]
 pub struct StoredActive {
     number: u16,
     // 1 for permit, 0 for deny
@@ -54,7 +54,7 @@ pub struct StoredActive {
 
 // A token; 12 bytes.
 #[repr(C)]
-#[derive(Drop)]
+#[derive(Clone, Copy)]
 pub struct StoredToken {
     until: u32,
     number: u16,
@@ -65,7 +65,7 @@ pub struct StoredToken {
 }
 
 #[repr(C)]
-#[derive(Drop)]
+#[derive(Clone, Copy)]
 pub struct StoredLedger {
     pub stamp: u64,
     clock: u32,

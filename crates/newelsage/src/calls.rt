@@ -13,7 +13,7 @@ use replay_entries::entry::EntryAnswer;
 const NOT_A_LEDGER: u64 = 103;
 
 // A status, and what is to stand in the caller's memory.
-#[derive(Drop)]
+#[derive(Clone, Copy)]
 pub struct Reply {
     pub status: u64,
     pub ledger: StoredLedger,

@@ -17,7 +17,7 @@ mod table;
 mod words;
 
 // Who asks, whether there is a draft, and how many bytes it has in its buffer.
-#[derive(Drop)]
+#[derive(Clone, Copy)]
 pub struct Inquiry {
     pub requester: Requester,
     pub has_draft: bool,
@@ -25,14 +25,14 @@ pub struct Inquiry {
 }
 
 // What the arguments say.
-#[derive(Drop)]
+#[derive(Clone, Copy)]
 pub enum Asked {
     By(Inquiry),
     Unusable,
 }
 
 // The length of a text, and whether it is a table.
-#[derive(Drop)]
+#[derive(Clone, Copy)]
 pub struct Shown {
     pub size: usize,
     pub is_table: bool,

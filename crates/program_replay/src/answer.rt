@@ -10,14 +10,14 @@ use ledger::Ledger;
 use replay_entries::entry::EntryAnswer;
 
 // The length of a line, and whether another entry may follow it.
-#[derive(Drop)]
+#[derive(Clone, Copy)]
 pub struct Shown {
     pub size: usize,
     pub goes_on: bool,
 }
 
 // A line, and the ledger after it.
-#[derive(Drop)]
+#[derive(Clone, Copy)]
 pub struct Turn {
     pub ledger: Ledger,
     pub shown: Shown,

@@ -4,7 +4,7 @@ ghost use Rattle.program_replay.specs.Promises.{head_part, value_part, PartRead}
 
 use streams::Filled;
 
-#[derive(Drop)]
+#[derive(Clone, Copy)]
 pub enum Part {
     // nothing stands there
     Ended,

@@ -20,7 +20,7 @@ pub const LAST_KIND: u8 = 7;
 
 // In C's layout, and in this order without padding: it is a part of the library's state (ledger_stored).
 #[repr(C)]
-#[derive(Drop)]
+#[derive(Clone, Copy)]
 pub struct Record {
     pub author: u16,
     pub origins: u16,
@@ -33,7 +33,7 @@ pub struct Record {
 
 // The parents of the roles and the records; what stands past the two counts has no meaning. In C's layout, as Record is.
 #[repr(C)]
-#[derive(Drop)]
+#[derive(Clone, Copy)]
 pub struct Register {
     pub roles: [u8; ROLES],
     pub role_count: usize,

@@ -11,7 +11,7 @@ use ledger::answer::{
 use ledger_preview::PreviewAnswer;
 
 // One case a call; a tag or a length that no call has is malformed.
-#[derive(Drop)]
+#[derive(Clone, Copy)]
 pub enum EntryAnswer {
     Commit(CommitAnswer),
     Revoke(RevokeAnswer),
@@ -25,7 +25,7 @@ pub enum EntryAnswer {
 }
 
 // A call that can change the ledger gives it back beside its answer.
-#[derive(Drop)]
+#[derive(Clone, Copy)]
 pub struct EntryResult {
     pub answer: EntryAnswer,
     pub ledger: Ledger,

@@ -17,7 +17,7 @@ use ledger_preview::PreviewAnswer;
 
 // The first `count` of the numbers stand in the line, then the first `bytes` of the lent buffer. A line without numbers is that
 // of a malformed entry.
-#[derive(Drop)]
+#[derive(Clone, Copy)]
 pub struct Line {
     pub numbers: [u64; 4],
     pub count: usize,

@@ -3,7 +3,7 @@ use Prim.Native.Nat.{ℕ, zero, suc, ◌+◌, ◌-◌, ◌*◌, ◌^◌, ◌<◌
 use mathlib.Core.Path.{◌≡◌, refl, sym, ap, ◌∙◌}
 use mathlib.Core.Bool.{Bool, false, ◌&&◌, ◌||◌, and-true, and-false, or-false}
 use native.Mathlib.Nat.{mul_assoc, pow-suc, sub_self, zero-add, lt_of_lt_of_le}
-use native.Mathlib.Numerals.{add_one}
+use native.Mathlib.Numerals.{add-one}
 use native.Mathlib.Decide.{ℕ_discrete, dec_lt}
 use native.Mathlib.Omega.{arith}
 use borrow.Author.Tests.{eq-eqb, ne_eqb, lt-ltb, le-ltb}
@@ -76,7 +76,7 @@ module _ {n : ℕ} {p : ℕ → Bool} {word i : ℕ} (h : HasHighest n p word i)
   highest_next {b} l e =
       record {
         turns = omega arith;
-        has = rw (h.has, add_one i) (set_doubled i _ _ b (e ∙ ap p (omega arith)) (λ k. ap p (omega arith)));
+        has = rw (h.has, add-one i) (set_doubled i _ _ b (e ∙ ap p (omega arith)) (λ k. ap p (omega arith)));
       }
 
   pub highest_all : n ≤ i → word ≡ set_of n p

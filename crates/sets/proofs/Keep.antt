@@ -5,7 +5,7 @@ use mathlib.Core.Path.{◌≡◌, refl}
 use mathlib.Core.Bool.{Bool, true, false, not}
 use mathlib.Core.Logic.{⊎_elim}
 use mathlib.Core.List.{List, [], ◌∷◌, ◌++◌, map, append-nil, Memᴰ}
-use native.Mathlib.Numerals.{add_one}
+use native.Mathlib.Numerals.{add-one}
 use native.Mathlib.Omega.{arith}
 use lib.ListN.{length, get_or, take}
 use lib.Seq.{take-suc}
@@ -129,7 +129,7 @@ module _ {A : Type 0} (p : A → Bool) where
   pub keep_next :
       (l : List A) (i : ℕ) (d : A) → i < length l →
       keep p (take (i + 1) l) ≡ pick (p (get_or l i d)) (keep p (take i l) ++ (get_or l i d ∷ [])) (keep p (take i l))
-  keep_next l i d h = rw (add_one, take-suc l i d) (keep_snoc (take i l) (get_or l i d))
+  keep_next l i d h = rw (add-one, take-suc l i d) (keep_snoc (take i l) (get_or l i d))
 
 -- what passes of a list's images
 pub keep_map :

@@ -4,7 +4,7 @@ use mathlib.Core.Path.{◌≡◌, refl, sym, ap, ◌∙◌}
 use mathlib.Core.Bool.{true}
 use mathlib.Core.List.{List, [], ◌∷◌, ◌++◌, append-nil}
 use native.Mathlib.Nat.{add-zero, add-suc, suc-add, zero-add, mul_assoc, pow-suc, pow-succ', div-add-mod', mul-le-mul_right, lt_of_lt_of_le, min-le_left, pow-le-pow_right, add-sub_of_le, div-div-eq-div-mul}
-use native.Mathlib.Numerals.{add_one, add-two}
+use native.Mathlib.Numerals.{add-one, add-two}
 use native.Mathlib.Omega.{arith}
 use borrow.Author.Tests.{ltb-true, lt-ltb}
 use lib.Dec.{ltb, lit<}
@@ -42,7 +42,7 @@ number_append a (b ∷ s) t = number_append (a * 256 + b) s t
 pub length_bytes : (n v : ℕ) → length (bytes n v) ≡ n
 unfolding bytes
 length_bytes zero v = refl
-length_bytes (suc n) v = rw (length-append, length_bytes n (v / 256)) (add_one n)
+length_bytes (suc n) v = rw (length-append, length_bytes n (v / 256)) (add-one n)
 
 pub bytes_are_bytes : (n v : ℕ) → is_bytes (bytes n v) ≡ true
 unfolding bytes all_in

@@ -4,7 +4,7 @@ use mathlib.Core.Path.{◌≡◌, refl, ap, ◌∙◌}
 use mathlib.Core.Bool.{true}
 use mathlib.Core.List.{List, [], ◌∷◌, ◌++◌, append_assoc, append-nil}
 use native.Mathlib.Nat.{add-zero, add-suc, suc-add, mul-zero, mul-one, mul-add}
-use native.Mathlib.Numerals.{add_one}
+use native.Mathlib.Numerals.{add-one}
 use native.Mathlib.Omega.{arith}
 use lib.ListN.{length, take, get_or, set, length-append}
 use lib.Seq.{sets, length-sets, take-suc}
@@ -93,7 +93,7 @@ module _ {A : Type 0} {fields : List A → List ℕ} {one : A → List ℕ} (eac
         held = p.held;
         up_to = omega arith;
         put =
-            rw (mul-add, mul-one, add_one k, take-suc l k d (omega (arith, p.held)), fields_snoc)
+            rw (mul-add, mul-one, add-one k, take-suc l k d (omega (arith, p.held)), fields_snoc)
             (rw (size a) at (put_more (one a) p.put e));
         kept = ap length e ∙ length-sets t (i + m * k) (one a) ∙ p.kept;
       }

@@ -4,7 +4,7 @@ use Prim.Native.Nat.{ℕ, zero, suc, ◌+◌, ◌-◌, ◌<◌, ◌≤◌}
 use mathlib.Core.Path.{◌≡◌, refl, sym, ap, ◌∙◌}
 use mathlib.Core.Bool.{Bool, false, ◌&&◌, ◌||◌, or_assoc, or-false}
 use native.Mathlib.Nat.{add-zero, add-suc, add-sub_of_le}
-use native.Mathlib.Numerals.{add_one}
+use native.Mathlib.Numerals.{add-one}
 use native.Mathlib.Decide.{dec_lt}
 use native.Mathlib.Omega.{arith}
 use Rattle.sets.specs.Quantifiers.{all_below, some_below, count_below, some_of}
@@ -58,7 +58,7 @@ count_up_to p n m h f =
 pub none_more :
     (n : ℕ) (f p : ℕ → Bool) → some_of n f p ≡ false → f n && p n ≡ false → some_of (n + 1) f p ≡ false
 unfolding some_of some_below
-none_more n f p e h = rw (add_one, e) h
+none_more n f p e h = rw (add-one, e) h
 
 -- where f is g below n and passes no number from n on, and p is q below n
 pub some_narrow :

@@ -3,7 +3,7 @@ use Prim.Native.Nat.{ℕ, ◌+◌, ◌*◌, ◌%◌, ◌^◌, ◌<◌, ◌≤◌
 use mathlib.Core.Path.{◌≡◌, refl, sym, ◌∙◌}
 use mathlib.Core.Bool.{Bool, true, false}
 use native.Mathlib.Nat.{lt_of_lt_of_le}
-use native.Mathlib.Numerals.{add_one}
+use native.Mathlib.Numerals.{add-one}
 use native.Mathlib.Decide.{dec_lt}
 use native.Mathlib.Omega.{arith}
 use borrow.Author.Tests.{lt-ltb, le-ltb}
@@ -15,11 +15,11 @@ use Rattle.sets.proofs.BitLaws.{set_bound, set_bit, set_ext}
 module _ (p : ℕ → Bool) where
   set_more : (q : ℕ) → set_of q p + one_if (p q) * 2 ^ q ≡ set_of (q + 1) p
   unfolding set_of
-  set_more q = rw add_one
+  set_more q = rw add-one
 
   set_less : (q : ℕ) → p q ≡ false → set_of q p ≡ set_of (q + 1) p
   unfolding set_of
-  set_less q e = rw (add_one, e) (omega arith)
+  set_less q e = rw (add-one, e) (omega arith)
 
   pub set_same : (n : ℕ) (q : ℕ → Bool) → ((k : ℕ) → k < n → p k ≡ q k) → set_of n p ≡ set_of n q
   set_same n q f = set_ext n (set_of n p) q (set_bound n p) (λ k h. set_bit n k p ∙ rw (lt-ltb k n h) (f k h))

@@ -5,7 +5,7 @@ use mathlib.Core.Bool.{Bool, true, false}
 use mathlib.Core.Logic.{⊎_elim}
 use mathlib.Core.List.{List, [], ◌∷◌, ◌++◌, append-nil}
 use native.Mathlib.Nat.{add-zero}
-use native.Mathlib.Numerals.{add_one}
+use native.Mathlib.Numerals.{add-one}
 use native.Mathlib.Omega.{arith}
 use lib.ListN.{length, take, drop, get_or, set, length-set, drop_of_length-le}
 use lib.Seq.{drop-cons, get_or-take, get_or-set_other, length-take-le, append_snoc, take-suc-set, take-set-le}
@@ -16,7 +16,7 @@ module _ {A : Type 0} (items : List A) (n : ℕ) (fits : n ≤ length items) whe
   -- what is left at turn i begins with element i
   left_next : (i : ℕ) (d : A) → i < n → drop i (take n items) ≡ get_or items i d ∷ drop (i + 1) (take n items)
   left_next i d h =
-      rw (add_one, drop-cons (take n items) i d (rw (length-take-le n items fits) h), get_or-take n items i d h)
+      rw (add-one, drop-cons (take n items) i d (rw (length-take-le n items fits) h), get_or-take n items i d h)
 
   left_none : (i : ℕ) → n ≤ i → drop i (take n items) ≡ []
   left_none i h = drop_of_length-le (take n items) {i = i} (rw (length-take-le n items fits) h)
@@ -65,7 +65,7 @@ module _ {A : Type 0} (p : A → Bool) where
   unfolding keep
   kept_next kept rest at x h =
       ⊎_elim
-      (λ (e : p x ≡ true). rw e (omega arith, rw (add_one at, take-suc-set kept at x h, append_snoc)))
+      (λ (e : p x ≡ true). rw e (omega arith, rw (add-one at, take-suc-set kept at x h, append_snoc)))
       (λ (e : p x ≡ false). rw e (omega arith, rw (add-zero at, take-set-le at kept at x (omega arith))))
       (either_way (p x))
 

@@ -3,7 +3,7 @@ ghost use Rattle.std.specs.Prelude.{◌≡◌, false, ◌&&◌, ◌||◌, ℕ, �
 ghost use Rattle.sets.specs.Quantifiers.{some_of};
 ghost use Rattle.sets.specs.RecordSets.{contains, set_bits};
 
-#[derive(Drop)]
+#[derive(Clone, Copy)]
 pub struct RecordSet {
     pub low: u64,
     pub high: u64,

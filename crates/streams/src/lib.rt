@@ -8,7 +8,7 @@ use libc::{STDIN_FILENO, STDOUT_FILENO};
 pub const FAILED: i32 = 2;
 
 // What one read of the input answers.
-#[derive(Drop)]
+#[derive(Clone, Copy)]
 pub enum Step {
     // so many bytes more
     More(usize),
@@ -19,7 +19,7 @@ pub enum Step {
 }
 
 // What the filling of a buffer gives.
-#[derive(Drop)]
+#[derive(Clone, Copy)]
 pub enum Filled {
     // so many bytes; fewer than the buffer has places for where the input ended after them
     Bytes(usize),

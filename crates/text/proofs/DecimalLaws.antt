@@ -3,7 +3,7 @@ use Prim.Native.Nat.{ℕ, zero, suc, ◌+◌, ◌-◌, ◌/◌, ◌%◌, ◌^◌
 use mathlib.Core.Path.{◌≡◌, refl, ap}
 use mathlib.Core.List.{List, [], ◌∷◌, ◌++◌}
 use native.Mathlib.Nat.{pow-suc, one-le-pow, mod-eq_of_lt}
-use native.Mathlib.Numerals.{add_one, unary_clauses}
+use native.Mathlib.Numerals.{add-one, unary_clauses}
 use native.Mathlib.Omega.{arith}
 use borrow.Author.Tests.{le-leb, lt-leb, lt-ltb}
 use lib.Dec.{lit<}
@@ -35,7 +35,7 @@ decimal_of n (suc k) (least, small, high) =
 
 pub digits_long : (b k n : ℕ) → length (last_digits b k n) ≡ k
 digits_long b zero n = refl
-digits_long b (suc k) n = rw (length-append, digits_long b k (n / b), add_one)
+digits_long b (suc k) n = rw (length-append, digits_long b k (n / b), add-one)
 
 -- the last of i digits, and then those of the number without it
 pub last_digit :

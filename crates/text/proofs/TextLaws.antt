@@ -2,7 +2,7 @@
 use Prim.Native.Nat.{ℕ, zero, suc, ◌+◌, ◌<◌}
 use mathlib.Core.Path.{◌≡◌, refl}
 use mathlib.Core.List.{List, [], ◌∷◌, ◌++◌, append_assoc, append-nil}
-use native.Mathlib.Numerals.{add_one}
+use native.Mathlib.Numerals.{add-one}
 use native.Mathlib.Omega.{arith}
 use lib.ListN.{length, take, get_or}
 use lib.Seq.{take-suc}
@@ -32,7 +32,7 @@ unfolding numbers_text
 numbers_next [] i h few = absurd (omega arith)
 numbers_next (n ∷ l) zero h few = absurd (omega arith)
 numbers_next (n ∷ l) (suc i) h few =
-    rw (add_one (suc i), take-suc l i 0 (omega arith), fields_snoc one_a_number, append_assoc)
+    rw (add-one (suc i), take-suc l i 0 (omega arith), fields_snoc one_a_number, append_assoc)
 
 -- where there are no bytes, and where there are some; a line with numbers
 pub bytes_none : (bs : List ℕ) → length bs ≡ 0 → bytes_text bs ≡ []

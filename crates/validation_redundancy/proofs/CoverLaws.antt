@@ -3,7 +3,7 @@ use Prim.Native.Nat.{ℕ, zero, suc, ◌+◌, ◌%◌, ◌^◌, ◌<◌, ◌≤�
 use mathlib.Core.Path.{◌≡◌, refl, sym, ap, ◌∙◌}
 use mathlib.Core.Bool.{Bool, true, false, ◌&&◌, not}
 use mathlib.Core.List.{List}
-use native.Mathlib.Numerals.{add_one}
+use native.Mathlib.Numerals.{add-one}
 use native.Mathlib.Omega.{arith}
 use borrow.Author.Tests.{eqb-true, eq-eqb, ne_eqb, not-true, eqb-false}
 use lib.ListN.{get_or}
@@ -75,7 +75,7 @@ pub record Passed (n : ℕ) (f : ℕ → Bool) (mask : ℕ → ℕ) (inner : ℕ
 next :
     (f p : ℕ → Bool) (k : ℕ) → all_of k f p ≡ true → (f k ≡ true → p k ≡ true) → all_of (k + 1) f p ≡ true
 unfolding all_of all_below
-next f p k e g = rw (add_one, e, implies_of (f k) (p k) g)
+next f p k e g = rw (add-one, e, implies_of (f k) (p k) g)
 
 module _ {n : ℕ} {f : ℕ → Bool} {mask : ℕ → ℕ} {inner : ℕ → Bool} {covered : Bool} where
   pub passed_none : covered ≡ true → Passed n f mask inner covered 0 0
@@ -166,7 +166,7 @@ module _ {masks : List ℕ} {n e : ℕ} {covered : Bool} where
         still = p.still;
         few = p.few;
         in_range = omega arith;
-        so_far = rw (add_one, p.so_far, ne_eqb (bit_and e (get_or masks k 0)) 0 some_in);
+        so_far = rw (add-one, p.so_far, ne_eqb (bit_and e (get_or masks k 0)) 0 some_in);
       }
 
   pub minutes_all : {k : ℕ} → MinutesPassed masks n e covered k → n ≤ k → minutes_covered masks n e ≡ true

@@ -3,7 +3,7 @@ use Prim.Native.Nat.{ℕ, zero, suc, ◌+◌, ◌-◌, ◌<◌, ◌≤◌}
 use mathlib.Core.Path.{◌≡◌, refl, sym, ap, ◌∙◌}
 use mathlib.Core.Bool.{Bool, true, false, and-true}
 use mathlib.Core.List.{List, ◌∷◌}
-use native.Mathlib.Numerals.{add_one, sub-one}
+use native.Mathlib.Numerals.{add-one, sub-one}
 use native.Mathlib.Decide.{ℕ_discrete, dec_lt}
 use native.Mathlib.Omega.{arith}
 use borrow.Author.Tests.{lt-ltb, le-ltb}
@@ -84,7 +84,7 @@ module _ {first end : ℕ} {from until : List ℕ} {n : ℕ} where
           long = length-set masks count v ∙ walked.long;
           few = omega (arith, walked.few);
           so_far = λ p.
-              rw (add_one count, add_one i, kept p, get_or-set_same masks count v 0 (omega (arith, walked)), walked.so_far p, is_mask, ← is_minute, spanned);
+              rw (add-one count, add-one i, kept p, get_or-set_same masks count v 0 (omega (arith, walked)), walked.so_far p, is_mask, ← is_minute, spanned);
         }
       where
         kept :
@@ -100,7 +100,7 @@ module _ {first end : ℕ} {from until : List ℕ} {n : ℕ} where
           turns = omega arith;
           long = walked.long;
           few = omega (arith, walked.few);
-          so_far = λ p. rw (add_one i, ← is_minute, not_spanned) (walked.so_far p ∙ sym (and-true _));
+          so_far = λ p. rw (add-one i, ← is_minute, not_spanned) (walked.so_far p ∙ sym (and-true _));
         }
 
   pub masked_all :

@@ -4,7 +4,7 @@ use mathlib.Core.Path.{◌≡◌, refl, sym, ap, ap₂, ◌∙◌}
 use mathlib.Core.Bool.{Bool, true, false, ◌&&◌, not, and-true, and-false, and_assoc, and_comm}
 use mathlib.Core.List.{List, [], ◌∷◌, map}
 use native.Mathlib.Nat.{lt_of_le_of_lt}
-use native.Mathlib.Numerals.{add_one}
+use native.Mathlib.Numerals.{add-one}
 use native.Mathlib.Decide.{dec_lt}
 use native.Mathlib.Omega.{arith}
 use borrow.Author.Tests.{lt-ltb, le-ltb, ltb-true}
@@ -197,7 +197,7 @@ module _ (c : Contents) (clock : ℕ) (ok : Directive → Bool) (d : Directive) 
       ≡ all_in (λ m. implies (in_minutes (start clock d) d.until m) (q m)) (boundaries clock d es)
   unfolding all_of
   minutes_met p q same =
-      rw (add_one)
+      rw (add-one)
       (all_same _ _ (suc (length es))
       (λ i h. rw (boundary_at es rows.until (start clock d) few is_rows.until i h, same))
       ∙ all_first (λ m. implies (in_minutes (start clock d) d.until m) (q m)) 0 (boundaries clock d es) (suc (length es))

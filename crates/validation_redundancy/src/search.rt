@@ -14,7 +14,7 @@ use active::{Active, ActiveList};
 use sets::record_set::RecordSet;
 
 // What a draft extends over in the dimensions but the minute: roles are those of the person who stands for its subject.
-#[derive(Drop)]
+#[derive(Clone, Copy)]
 struct Extent {
     records: RecordSet,
     origins: u16,

@@ -17,7 +17,7 @@ use directive::{Directive, Subject};
 use sets::record_set::RecordSet;
 
 // The rows of the active directives, one number each.
-#[derive(Drop)]
+#[derive(Clone, Copy)]
 pub struct Rows {
     pub roles: [u64; active::PLACES],
     pub origins: [u64; active::PLACES],
@@ -177,7 +177,7 @@ fn minute_column(
 }
 
 // The masks at the boundary minutes that the draft spans.
-#[derive(Drop)]
+#[derive(Clone, Copy)]
 pub struct Minutes {
     pub masks: [u32; 33],
     pub count: usize,

@@ -3,7 +3,7 @@ use Prim.Native.Nat.{◌^◌, ◌-◌, ◌≤◌, ◌<◌}
 use mathlib.Core.Path.{◌≡◌, sym, ◌∙◌}
 use mathlib.Core.Bool.{true}
 use native.Mathlib.Omega.{arith}
-use native.Mathlib.Numerals.{add_one}
+use native.Mathlib.Numerals.{add-one}
 use native.Mathlib.Nat.{pow-suc, pow-le-pow_right}
 use borrow.Author.Rules.{rules}
 use lib.Dec.{lit<}
@@ -63,7 +63,7 @@ loop-again c =
     let here = all_here is_digit digits i (search rules) in
     let rest = (and_both (is_digit (get_or digits i 0)) _ (sym here ∙ loop.loop.invariant.2)).1 in
     let next = sym (value_here digits i (search rules) loop.loop.n) ∙ loop.loop.invariant.3 in
-    (search rules, rw add_one (omega (arith, pow-suc 10 i)), rest, rw c.digit-of.ensures.0 next)
+    (search rules, rw add-one (omega (arith, pow-suc 10 i)), rest, rw c.digit-of.ensures.0 next)
 
 returns : tie.Need-returns invariant-loop decreases-loop
 returns c =

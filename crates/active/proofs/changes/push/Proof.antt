@@ -1,6 +1,6 @@
 -- `changes::push` stores the entry past those that count, and counts it.
 use mathlib.Core.Path.{◌≡◌, refl}
-use native.Mathlib.Numerals.{add_one}
+use native.Mathlib.Numerals.{add-one}
 use native.Mathlib.Omega.{arith}
 use borrow.Author.Rules.{rules}
 use lib.ListN.{length}
@@ -22,7 +22,7 @@ returns : tie.Need-returns
 returns c =
     let l = c.args.l in
     let long : length l.entries ≡ 32 = search (rules, long_mapped) in
-    record { count = refl; entries = rw add_one (take-suc-set l.entries l.count c.args.a (omega (arith, c.requires))) }
+    record { count = refl; entries = rw add-one (take-suc-set l.entries l.count c.args.a (omega (arith, c.requires))) }
 
 pub push_spec : {M : Type 1} → statement M
 push_spec = tie.close (tie.spec mul-a element-set-from-a add-more returns)

@@ -1,6 +1,6 @@
 -- `list::push` puts the token at the place after those that count.
 use mathlib.Core.Path.{◌≡◌, refl}
-use native.Mathlib.Numerals.{add_one}
+use native.Mathlib.Numerals.{add-one}
 use native.Mathlib.Omega.{arith}
 use borrow.Author.Rules.{rules}
 use lib.ListN.{length}
@@ -22,7 +22,7 @@ returns : tie.Need-returns
 returns c =
     let l = c.args.l in
     let long : length l.tokens ≡ 4 = search (rules, long_mapped) in
-    record { count = refl; tokens = rw (add_one, take-suc-set l.tokens l.count c.args.t (omega arith)) }
+    record { count = refl; tokens = rw (add-one, take-suc-set l.tokens l.count c.args.t (omega arith)) }
 
 pub push_spec : {M : Type 1} → statement M
 push_spec = tie.close (tie.spec mul-t element-set-from-t add-longer returns)

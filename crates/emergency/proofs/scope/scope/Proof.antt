@@ -2,7 +2,7 @@
 use Prim.Native.Nat.{ℕ, ◌^◌, ◌-◌, ◌<◌, ◌≤◌}
 use mathlib.Core.Path.{◌≡◌, ◌∙◌}
 use mathlib.Core.Bool.{◌&&◌}
-use native.Mathlib.Numerals.{add_one}
+use native.Mathlib.Numerals.{add-one}
 use native.Mathlib.Omega.{arith}
 use borrow.Author.Rules.{rules}
 use lib.ListN.{get_or}
@@ -48,7 +48,7 @@ loop-again c =
     record {
       in_table = search rules;
       wide = search rules;
-      has = λ k. c.join.ensures k ∙ rw (add_one now.s, now.invariant.has k, c.before.opened.ensures k);
+      has = λ k. c.join.ensures k ∙ rw (add-one now.s, now.invariant.has k, c.before.opened.ensures k);
     }
 
 returns : tie.Need-returns invariant-loop decreases-loop

@@ -2,7 +2,7 @@
 use Prim.Native.Nat.{◌^◌, ◌<◌}
 use mathlib.Core.Path.{◌≡◌}
 use mathlib.Core.Bool.{true}
-use native.Mathlib.Numerals.{add_one}
+use native.Mathlib.Numerals.{add-one}
 use native.Mathlib.Omega.{arith}
 use borrow.Author.Rules.{rules}
 use borrow.Author.Tests.{lt-ltb}
@@ -74,7 +74,7 @@ returns-2 c invariant =
     enrolled invariant _
     fits
     (rw start.requires.2)
-    (rw (add_one n, take-suc-set l.register.records n r (omega (arith, array start, start.requires.0))))
+    (rw (add-one n, take-suc-set l.register.records n r (omega (arith, array start, start.requires.0))))
     (sound_record (view l).register invariant.model.register r role (omega (arith, count, start.requires.0)) fits (widths start))
     invariant.shape.roles_held
     (omega (arith, start.requires.0))

@@ -3,7 +3,7 @@
 use Prim.Native.Nat.{ℕ, ◌+◌, ◌-◌, ◌<◌, ◌≤◌}
 use mathlib.Core.Path.{◌≡◌, refl, ap, ◌∙◌}
 use mathlib.Core.List.{List}
-use native.Mathlib.Numerals.{add_one}
+use native.Mathlib.Numerals.{add-one}
 use native.Mathlib.Omega.{arith}
 use borrow.Author.Rules.{rules}
 use lib.ListN.{length, take, get_or, set, length-set}
@@ -29,7 +29,7 @@ module _ {parents roles : List ℕ} {q : ℕ} (copied : Copied parents roles q) 
         places = simp length-set copied.places;
         first =
             rw (
-              add_one q,
+              add-one q,
               take-suc-set roles q (get_or parents q 0) (omega (arith, copied.places)),
               take-suc parents q 0 h,
               copied.first,

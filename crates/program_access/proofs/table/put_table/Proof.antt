@@ -1,7 +1,7 @@
 -- `table::put_table`: after i turns the lines of the first i records stand.
 use Prim.Native.Nat.{◌-◌, ◌*◌, ◌≤◌}
 use mathlib.Core.Path.{◌≡◌, refl}
-use native.Mathlib.Numerals.{add_one}
+use native.Mathlib.Numerals.{add-one}
 use native.Mathlib.Omega.{arith}
 use borrow.Author.Rules.{rules}
 use lib.ListN.{length}
@@ -48,7 +48,7 @@ loop-again c =
       search rules,
       omega (arith, inv.1, put.put_record.ensures.1),
       search rules,
-      rw add_one (puts_more inv.3 put.put_record.ensures.0),
+      rw add-one (puts_more inv.3 put.put_record.ensures.0),
     )
 
 same_length : tie.Need-same-length invariant-loop decreases-loop

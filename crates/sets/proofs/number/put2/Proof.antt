@@ -1,7 +1,7 @@
 -- `number::put2`: the high byte needs no remainder, since the number is below 65536.
 use Prim.Native.Nat.{◌/◌}
 use native.Mathlib.Nat.{mod-eq_of_lt}
-use native.Mathlib.Numerals.{add_one}
+use native.Mathlib.Numerals.{add-one}
 use borrow.Author.Rules.{rules}
 use lib.ListN.{length-set}
 use Rattle.sets.specs.Numbers.{bytes}
@@ -28,7 +28,7 @@ same_length c = search rules
 
 returns : tie.Need-returns
 unfolding bytes
-returns c = rw (mod-eq_of_lt {n = c.args.v / 256} {m = 256} (search rules), add_one)
+returns c = rw (mod-eq_of_lt {n = c.args.v / 256} {m = 256} (search rules), add-one)
 
 pub put2-spec : {M : Type 1} → statement M
 put2-spec =

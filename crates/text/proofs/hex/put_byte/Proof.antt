@@ -1,7 +1,7 @@
 -- `hex::put_byte`: the high digit needs no remainder, since a byte is below 256.
 use Prim.Native.Nat.{◌/◌}
 use native.Mathlib.Nat.{mod-eq_of_lt}
-use native.Mathlib.Numerals.{add_one}
+use native.Mathlib.Numerals.{add-one}
 use borrow.Author.Rules.{rules}
 use lib.ListN.{length-set}
 use Rattle.text.proofs.hex.put_byte.Statement.{statement}
@@ -28,7 +28,7 @@ same_length c = search rules
 returns : tie.Need-returns
 returns c =
     let b = c.before.before.before.args.b in
-    rw (c.before.digit.ensures, c.digit2.ensures, mod-eq_of_lt {n = b / 16} {m = 16} (search rules), add_one)
+    rw (c.before.digit.ensures, c.digit2.ensures, mod-eq_of_lt {n = b / 16} {m = 16} (search rules), add-one)
 
 pub put-byte-spec : {M : Type 1} → statement M
 put-byte-spec =
