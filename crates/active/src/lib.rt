@@ -1,4 +1,6 @@
 // The active directives of a ledger, each with the set of the records that it selects, which is computed once.
+#![tactic(auto)]
+
 ghost use Rattle.std.specs.Prelude.{◌≡◌, length};
 ghost use Rattle.register.specs.Register.{contents};
 ghost use Rattle.active.specs.Active.{no_active, active_in, empty_list, directives_of};

@@ -1,4 +1,6 @@
 // A program's arguments, as decimal numbers here and as bytes in `hexadecimal`.
+#![tactic(auto)]
+
 ghost use Rattle.std.specs.Prelude.{◌≡◌, true, ◌≤◌, length};
 ghost use Rattle.sets.specs.Quantifiers.{all_in};
 ghost use Rattle.arguments.specs.Decimal.{is_between, is_digit, digit_of, value, most_digits, number_up_to, read_as, Bounded};

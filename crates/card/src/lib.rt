@@ -1,4 +1,6 @@
 // The consent card: the answers of reading and writing it, and the bytes of its head.
+#![tactic(auto)]
+
 use ledger::Ledger;
 use ledger::answer::DirectiveRefusal;
 

@@ -1,2 +1,4 @@
 // Writing a card.
+#![tactic(auto)]
+
 pub mod write;

@@ -1,4 +1,6 @@
 // Directives and requests.
+#![tactic(auto)]
+
 ghost use Rattle.std.specs.Prelude.{◌≡◌};
 ghost use Rattle.directive.specs.Matching.{query_on};
 ghost use Rattle.directive.specs.Nothing.{no_directive};

@@ -1,4 +1,6 @@
 // The bytes of a directive, on a card and in a draft.
+#![tactic(auto)]
+
 pub mod form;
 
 // How many bytes a directive has in edition 2 and in a draft.

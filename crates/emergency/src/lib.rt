@@ -1,4 +1,6 @@
 // Emergency tokens: the list of them, scope and brief.
+#![tactic(auto)]
+
 ghost use Rattle.std.specs.Prelude.{◌≡◌, length};
 ghost use Rattle.emergency.specs.Tokens.{no_token, empty_tokens, tokens_of};
 

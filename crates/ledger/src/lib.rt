@@ -1,4 +1,6 @@
 // The ledger of one patient: register, clock, active directives and live emergency tokens.
+#![tactic(auto)]
+
 ghost use Rattle.std.specs.Prelude.{◌≡◌};
 ghost use Rattle.ledger.specs.State.{empty_ledger, ledger_from};
 

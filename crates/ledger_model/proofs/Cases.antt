@@ -112,6 +112,7 @@ all_found = refl
 
 -- two functions that give the same list give the same of each element
 same_at : {A B : Type 0} (f g : A → B) (l : List A) → map f l ≡ map g l → (a : A) → Memᴰ a l → f a ≡ g a
+same_at f g [] e a m = elim m [ ]
 same_at f g (x ∷ l) e a (Memᴰ.head q) = rw q (cc)
 same_at f g (x ∷ l) e a (Memᴰ.tail i) = same_at f g l (cc) a i
 

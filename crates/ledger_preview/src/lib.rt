@@ -1,4 +1,6 @@
 // Preview: which records a draft would open or close to one requester, before it is signed. The ledger stays as it is.
+#![tactic(auto)]
+
 ghost use Rattle.std.specs.Prelude.{◌≡◌, ◌&&◌, ◌<◌};
 ghost use Rattle.sets.specs.Quantifiers.{one_if};
 ghost use Rattle.sets.specs.RecordSets.{contains, record_set_of};

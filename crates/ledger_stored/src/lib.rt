@@ -1,5 +1,7 @@
 // The ledger as a caller in another language holds it: numbers alone, so that every bit pattern of its memory is a value, and no
 // padding, so that no byte of it is left to chance.
+#![tactic(auto)]
+
 ghost use Rattle.std.specs.Prelude.{◌≡◌, List, map, ◌≤◌, length, take};
 ghost use Rattle.sets.specs.Quantifiers.{keep};
 ghost use Rattle.register.specs.declared.Record.{Record as Held};

@@ -1,5 +1,7 @@
 // libnewelsage: what C, Rust and Python call (include/newelsage.h). The caller owns the ledger's memory and lends it, with its size.
 // Nothing is allocated and nothing is global.
+#![tactic(auto)]
+
 ghost use Rattle.std.specs.Prelude.{◌≡◌, ◌%◌};
 ghost use Rattle.ledger_stored.specs.Stored.{the_stamp, the_size};
 ghost use Rattle.newelsage.specs.Library.{Empties, Reads, Calls, Asks};

@@ -1,5 +1,7 @@
 // The program `access`: a card and a requester give a line for each record, permit or deny and why, at the card's clock. With a draft the
 // line also says what its commit would change, and a last line how many records change.
+#![tactic(auto)]
+
 ghost use Rattle.std.specs.Prelude.{◌≡◌, ◌≤◌, length};
 ghost use Rattle.arguments.specs.Decimal.{Bounded};
 ghost use Rattle.program_access.specs.Arguments.{asked_by, with_draft, DraftAtMost, status_for};

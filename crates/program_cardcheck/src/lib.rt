@@ -1,5 +1,7 @@
 // The program `cardcheck`. It reads a card from standard input, at most its first 65,535 bytes, and prints one line: refusal (0 for
 // none), records and active directives.
+#![tactic(auto)]
+
 ghost use Rattle.std.specs.Prelude.{[]};
 ghost use Rattle.card.specs.Reading.{card_line};
 ghost use Rattle.text.specs.Text.{line_text};

@@ -1,5 +1,7 @@
 // The program `replay`. It reads a replay from standard input, a card and a list of calls of any length, and prints a line for the
 // card and one for each call.
+#![tactic(auto)]
+
 ghost use Rattle.std.specs.Prelude.{◌≤◌, length};
 
 use input::Part;

@@ -1,4 +1,6 @@
 // The register: roles and records, each with a parent of lower number.
+#![tactic(auto)]
+
 ghost use Rattle.std.specs.Prelude.{◌≡◌};
 ghost use Rattle.register.specs.Register.{no_record, empty_register};
 

@@ -1,3 +1,5 @@
 // One call of a replay on a ledger, and the line of its answer.
+#![tactic(auto)]
+
 pub mod entry;
 pub mod line;

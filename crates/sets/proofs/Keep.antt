@@ -24,11 +24,13 @@ module _ {A : Type 0} (p : A → Bool) where
 
   pub keep_shorter : (l : List A) (a : A) → Memᴰ a l → p a ≡ false → length (keep p l) < length l
   unfolding keep
+  keep_shorter [] a m e = elim m [ ]
   keep_shorter (x ∷ l) a (Memᴰ.head q) e = rw (← q, e) (omega (arith, keep_short l))
   keep_shorter (x ∷ l) a (Memᴰ.tail m) e = omega (arith, one_more (p x) x (keep p l), keep_shorter l a m e)
 
   pub mem_keep : (l : List A) (a : A) → Memᴰ a l → p a ≡ true → Memᴰ a (keep p l)
   unfolding keep
+  mem_keep [] a m e = elim m [ ]
   mem_keep (x ∷ l) a (Memᴰ.head q) e = rw (← q, e) (Memᴰ.head refl)
   mem_keep (x ∷ l) a (Memᴰ.tail m) e =
       elim (p x) as (λ b. Memᴰ a (pick b (x ∷ keep p l) (keep p l))) [

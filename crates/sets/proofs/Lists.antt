@@ -117,6 +117,7 @@ pub pairwise_at :
     {A : Type 0} (r : A → A → Bool) → ((a b : A) → r a b ≡ r b a) → (l : List A) → pairwise r l ≡ true →
     (a b : A) → Memᴰ a l → Memᴰ b l → (a ≡ b) ⊎ (r a b ≡ true)
 unfolding pairwise
+pairwise_at r back [] e a b i _ = elim i [ ]
 pairwise_at r back (x ∷ l) e a b (Memᴰ.head i) (Memᴰ.head j) = inl (i ∙ sym j)
 pairwise_at r back (x ∷ l) e a b (Memᴰ.head i) (Memᴰ.tail j) =
     inr (rw i ((every_list l).read (r x) (and_both (all_in (r x) l) _ e).0 b j))

@@ -152,6 +152,7 @@ module _ (n : ℕ) (f : ℕ → Bool) where
 module _ {A : Type 0} (p : A → Bool) where
   every_list_read : (l : List A) → all_in p l ≡ true → (a : A) → Memᴰ a l → p a ≡ true
   unfolding all_in
+  every_list_read [] e a m = elim m [ ]
   every_list_read (x ∷ l) e a (Memᴰ.head q) = rw q (and_both (p x) _ e).0
   every_list_read (x ∷ l) e a (Memᴰ.tail m) = every_list_read l (and_both (p x) _ e).1 a m
 
@@ -172,6 +173,7 @@ module _ {A : Type 0} (p : A → Bool) where
 
   some_list_make : (l : List A) (a : A) → Memᴰ a l → p a ≡ true → some_in p l ≡ true
   unfolding some_in
+  some_list_make [] a m e = elim m [ ]
   some_list_make (x ∷ l) a (Memᴰ.head q) e = rw (← q, e)
   some_list_make (x ∷ l) a (Memᴰ.tail m) e = or_right (p x) _ (some_list_make l a m e)
 

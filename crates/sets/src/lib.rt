@@ -1,4 +1,5 @@
 // Sets as bits of a number, sets of records as two words, bounds of counts, and big-endian numbers.
+#![tactic(auto)]
 
 pub mod bits;
 pub mod bounds;

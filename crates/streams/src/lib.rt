@@ -1,4 +1,6 @@
 // Standard input and standard output, with an error distinguished from the end of the input. A failure is named on standard error.
+#![tactic(auto)]
+
 ghost use Rattle.std.specs.Prelude.{◌-◌, ◌≤◌, ◌≡◌, length};
 ghost use Rattle.streams.specs.Reads.{step_of, Within, ended_by, Fills, status_of};
 

@@ -1,4 +1,5 @@
 // The lines that the programs print: decimal numbers, bytes in hexadecimal, the word `malformed`.
+#![tactic(auto)]
 
 pub mod copy;
 pub mod decimal;

@@ -1,3 +1,5 @@
 // Redundancy: the tables of the search, and the search.
+#![tactic(auto)]
+
 pub mod search;
 mod tables;
