@@ -12,28 +12,15 @@ use Rattle.register.specs.Records.{record_at}
 use Rattle.register.proofs.ArrayLaws.{long_mapped}
 use Rattle.emergency.specs.Emergency.{scope, disclosed}
 use Rattle.emergency.proofs.BriefLaws.{disclosed_of}
-use Rattle.emergency.proofs.disclosure.disclosed.Statement.{statement}
-use Rattle.emergency.proofs.disclosure.disclosed.Tie as tie
+use Rattle.emergency.proofs.disclosure.disclosed.Goals as goal
 
-scope-requires : tie.Need-scope-requires
-scope-requires c κs = search rules
-
-labelled-requires : tie.Need-labelled-requires
-labelled-requires c κs = search rules
-
-below-requires : tie.Need-below-requires
-below-requires c κs = search rules
-
-returns : tie.Need-returns
+pub returns : goal.returns
 returns c =
-    let args = c.before.before.before.before.args in
+    let args = c.args in
     let long : length args.g.records ≡ 128 = search (rules, long_mapped) in
     let opens : ℕ → Bool = λ x. shares 16 (record_at args.g.records x).labels (scope args.states) in
     words_ext c.below.result (disclosed (contents args.g).records args.states) (search rules) (search rules)
     (λ k h.
     c.below.ensures k h
-    ∙ rw (c.before.labelled.ensures, c.before.before.scope.ensures, contains_words opens k h)
+    ∙ rw (c.labelled.ensures, c.scope.ensures, contains_words opens k h)
     (disclosed_of args.g.records args.g.record_count args.states k (omega arith)))
-
-pub disclosed-spec : {M : Type 1} → statement M
-disclosed-spec = tie.close (tie.spec scope-requires labelled-requires below-requires returns)
