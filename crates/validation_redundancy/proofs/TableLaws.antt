@@ -30,7 +30,6 @@ use Rattle.directive.specs.Matching.{in_minutes, applies_to}
 use Rattle.directive.proofs.SelectLaws.{selects_past}
 use Rattle.validation_redundancy.specs.declared.tables.Rows.{Rows}
 use Rattle.validation_redundancy.specs.declared.tables.Minutes.{Minutes}
-use Rattle.validation_meaning.specs.Requests.{origins, purposes}
 use Rattle.validation_meaning.specs.Search.{from_origin, for_purpose, start, stands_for, covered_at, boundaries, included_found}
 use Rattle.validation_redundancy.specs.Masks.{role_row, record_row, column, record_column, minute_column, minutes_covered, level_covered, all_covered, Row, RowsOf, MinutesOf}
 
