@@ -59,9 +59,10 @@ pub lowest_is : (d : Directive) (ds : List Directive) → Lowest (d ∷ ds) (low
 unfolding lowest
 lowest_is d [] = lowest_one d
 lowest_is d (e ∷ ds) =
-    lowest_more (lowest_two d e (ltb e.number d.number) refl) (lowest_is _ ds)
+    lowest_more (lowest_two d e (ltb e.number d.number) refl) (lowest_is (pick (ltb e.number d.number) e d) ds)
 
 pub lowest_named :
     (ds : List Directive) (e : Directive) → Memᴰ e ds →
     (d : Directive) × Lowest ds d × (lowest_number ds ≡ d.number ∷ [])
+lowest_named [] e m = elim m [ ]
 lowest_named (d ∷ ds) e m = (lowest d ds, lowest_is d ds, refl)

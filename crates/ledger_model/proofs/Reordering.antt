@@ -1,8 +1,8 @@
 -- What a permutation of a list keeps: its length, and tests of each, of some and of any two of its elements. Compatible
 -- drafts are compatible in any order.
 use Prim.Native.Nat.{ℕ, suc}
-use mathlib.Core.Path.{◌≡◌, refl, sym, ap, ◌∙◌}
-use mathlib.Core.Bool.{Bool, true, not, not-not}
+use mathlib.Core.Path.{◌≡◌, refl, sym, ap, ap₂, ◌∙◌}
+use mathlib.Core.Bool.{◌&&◌, Bool, true, not, not-not}
 use mathlib.Core.List.{List, Permᴰ}
 use borrow.Author.Tests.{eqb-true, eq-eqb}
 use lib.ListN.{length}
@@ -42,7 +42,8 @@ module _ {A : Type 0} where
   pairwise_reordered r back Permᴰ.nil = refl
   pairwise_reordered r back (Permᴰ.cons {b} e h) = rw (e, all_reordered (r b) h, pairwise_reordered r back h)
   pairwise_reordered r back (Permᴰ.swap {a} {b} {l} e f) =
-      rw (← e, ← f, back a b) (and_middle (r b a) (all_in (r a) l) (all_in (r b) l) (pairwise r l))
+      rw (back a b) (and_middle (r b a) (all_in (r a) l) (all_in (r b) l) (pairwise r l))
+      ∙ ap₂ (λ (x y : A). r x y && all_in (r x) l && (all_in (r y) l && pairwise r l)) f e
   pairwise_reordered r back (Permᴰ.trans h k) = pairwise_reordered r back h ∙ pairwise_reordered r back k
 
 eqb_sym : (a b : ℕ) → eqb a b ≡ eqb b a

@@ -25,7 +25,7 @@ use Rattle.emergency.specs.Tokens.{token_places}
 use Rattle.ledger_model.specs.Model.{Model}
 use Rattle.ledger_model.specs.Answer.{done}
 use Rattle.ledger_model.specs.Questions.{Question, passes, directive_questions, draft_questions, revoke_questions, advance_questions, live_tokens, last_minute, issue_questions}
-use Rattle.ledger_model.specs.Calls.{with_last, admitted_by, admitted, committed_draft_by, committed_draft, committed, after_revoke, revoked, after_advance, advanced, after_issue, issued}
+use Rattle.ledger_model.specs.Calls.{with_last, admitted_by, admitted, committed_draft_by, committed_draft, after_revoke, revoked, after_advance, advanced, after_issue, issued}
 use Rattle.ledger_model.specs.Invariant.{stands, token_stands, ModelInvariant}
 use Rattle.ledger_model.proofs.Questions.{outcome_by}
 use Rattle.ledger_model.proofs.Passed.{Passed, passed_read, passes_draft}
