@@ -40,6 +40,12 @@ def turns(name):
     return name[:1].islower() and (re.search(r"[a-z0-9][A-Z]", name) or "-" in name)
 
 
+def is_document(path, top):
+    """A page of the repository, but CHANGES.md, which tells of earlier states."""
+    parts = os.path.relpath(path, top).split(os.sep)
+    return path.endswith(".md") and not {"out", "target"} & set(parts) and parts[-1] not in ("CHANGES.md", "PORT.md")
+
+
 def main():
     top = os.path.abspath(sys.argv[1] if len(sys.argv) > 1 else ".")
     kit = os.path.dirname(subprocess.run(["rt", "doc"], capture_output=True, text=True).stdout.split()[-1])
@@ -121,16 +127,26 @@ def main():
             for new, olds in into.items():
                 if len(olds) > 1:
                     print(f"together: {os.path.relpath(f, top)}: {', '.join(sorted(olds))}")
-    # documents and edits: the words of the table alone
-    for f in snake.files_below(top):
-        if f.endswith(".md") and "/out/" not in f and "/target/" not in f and "CHANGES" not in f:
-            turner = snake.Turner({k: v for k, v in table.items()}, "none", set(), [])
-            old = open(f, encoding="utf-8").read()
-            new = turner.md(old, f)
-            if new != old:
-                count += 1
-                with open(f, "w", encoding="utf-8") as out:
-                    out.write(new)
+    # documents: the words of the table, and those that port.py has respelled in the sources
+    there = {table.get(n, n) for n in declared}
+    documents = dict(table)
+    for f in [f for f in snake.files_below(top) if is_document(f, top)]:
+        for w in re.findall(NAME + r"|[\w-]+", open(f, encoding="utf-8").read()):
+            w = w.strip("`|:*")
+            if turns(w) and w not in documents:
+                new = snake_case(w)
+                if "-" in w and new + "_lem" in there:
+                    documents[w] = new + "_lem"
+                elif new in there:
+                    documents[w] = new
+    for f in [f for f in snake.files_below(top) if is_document(f, top)]:
+        turner = snake.Turner(documents, "none", set(), [])
+        old = open(f, encoding="utf-8").read()
+        new = turner.md(old, f)
+        if new != old:
+            count += 1
+            with open(f, "w", encoding="utf-8") as out:
+                out.write(new)
     for crate in sorted(os.listdir(os.path.join(top, "crates"))):
         subprocess.run(["rt", "fmt"], cwd=os.path.join(top, "crates", crate), stdout=subprocess.DEVNULL, stderr=subprocess.DEVNULL)
     print(f"respell: {len(table)} names, {count} files")
