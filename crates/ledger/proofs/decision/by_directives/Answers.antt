@@ -1,9 +1,8 @@
 -- `decision::by_directives`: the lowest directive where there is one, otherwise the default consent.
 use Prim.Native.Nat.{ℕ}
 use mathlib.Core.Path.{◌≡◌, refl, sym, ap, ◌∙◌}
-use mathlib.Core.Bool.{Bool, true, false, ◌&&◌}
+use mathlib.Core.Bool.{Bool, true, false, ◌&&◌, not}
 use mathlib.Core.List.{List, [], ◌∷◌}
-use borrow.Author.Rules.{rules}
 use lib.Dec.{eqb}
 use Rattle.sets.specs.Quantifiers.{one_if}
 use Rattle.sets.specs.Bits.{bit}
@@ -19,8 +18,7 @@ use Rattle.ledger_model.specs.Decision.{Decision, matching, by_directives, decis
 use Rattle.ledger_model.specs.Questions.{first_no}
 use Rattle.ledger_model.specs.Calls.{decided}
 use Rattle.ledger.specs.Opening.{Undecided}
-use Rattle.ledger.proofs.decision.by_directives.Statement.{statement}
-use Rattle.ledger.proofs.decision.by_directives.Tie as tie
+use Rattle.ledger.proofs.decision.by_directives.Goals as goal
 
 by_lowest :
     (ds : List Directive) (x : Decision) → (best_of ds).found ≡ true →
@@ -57,21 +55,14 @@ module _ (m : Model) (q : Query) {origins : ℕ} {best : Best} (past : Undecided
         ap (bit q.origin) (sym past.default) ∙ b,
       )
 
-returns : tie.Need-returns
-returns c m past lowest = directive m _ past lowest c.if1.true
+pub returns-then-best : goal.returns-then-best
+returns-then-best c m past lowest = directive m _ past lowest c.if-best.true
 
-has-requires : tie.Need-has-requires
-has-requires c κs = search rules
+pub returns-then-not-has : goal.returns-then-not-has
+returns-then-not-has c m past lowest =
+    default m _ past lowest false c.if-best.false (failed c.has.ensures (ap not c.if-not-has.true))
 
-returns-2 : tie.Need-returns-2
-returns-2 c m past lowest =
-    default m _ past lowest false c.before.before.if1.false (failed c.before.has.ensures c.if2.true)
-
-returns-3 : tie.Need-returns-3
-returns-3 c m past lowest =
-    let tested = c.before in
-    default m _ past lowest true tested.before.before.if1.false
-    (passed tested.before.has.ensures tested.if2.false)
-
-pub by-directives-spec : {M : Type 1} → statement M
-by-directives-spec = tie.close (tie.spec returns has-requires returns-2 returns-3)
+pub returns : goal.returns
+returns c m past lowest =
+    default m _ past lowest true c.if-best.false
+    (passed c.has.ensures (ap not c.if-not-has.false))

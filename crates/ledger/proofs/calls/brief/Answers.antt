@@ -6,7 +6,6 @@ use mathlib.Core.Bool.{Bool, true, false, ◌&&◌}
 use mathlib.Core.Logic.{⊎_elim}
 use mathlib.Core.List.{List, [], ◌∷◌}
 use native.Mathlib.Omega.{arith}
-use borrow.Author.Rules.{rules}
 use lib.Dec.{eqb}
 use Rattle.sets.specs.Quantifiers.{some_in, keep}
 use Rattle.sets.proofs.Quantifiers.{either_way}
@@ -22,8 +21,7 @@ use Rattle.ledger_model.specs.Answer.{done, refused}
 use Rattle.ledger_model.specs.Questions.{first_no, live_tokens}
 use Rattle.ledger_model.specs.Calls.{brief_by, briefed}
 use Rattle.ledger_model.proofs.Soundness.{live_all}
-use Rattle.ledger.proofs.calls.brief.Statement.{statement}
-use Rattle.ledger.proofs.calls.brief.Tie as tie
+use Rattle.ledger.proofs.calls.brief.Goals as goal
 
 abbrev is_found : TokenStates → Bool
 is_found (States s) = true
@@ -56,35 +54,13 @@ module _ (m : Model) (n p : ℕ) where
   unfolding briefed first_no
   nothing e = rw (some_found asked (live_tokens m) ∙ ap is_found e)
 
-states-of-requires : tie.Need-states-of-requires
-states-of-requires c κs = search rules
+pub returns-in-States : goal.returns-in-States
+returns-in-States c invariant =
+    let is = sym c.states_of-found.ensures ∙ c.in-States.is in
+    rw c.brief_over-b.ensures
+    (sym (found (view c.args.l) c.args.number c.args.person _ (rw (live_all _ invariant.model) is)))
 
-enum-known-found : tie.Need-enum-known-found
-enum-known-found c = search rules
-
-brief-over-requires : tie.Need-brief-over-requires
-brief-over-requires c κs = search rules
-
-enum_told : tie.Need-enum-told
-enum_told c = search rules
-
-returns : tie.Need-returns
-returns c invariant =
-    let by = c.before.before.before in
-    let sought = by.before.before in
-    let start = sought.before.before in
-    let is = sym sought.states-of.ensures ∙ by.found.given.1 in
-    rw c.brief-over.ensures
-    (sym (found (view start.args.l) start.args.number start.args.person _ (rw (live_all _ invariant.model) is)))
-
-returns-2 : tie.Need-returns-2
-returns-2 c invariant =
-    let sought = c.before.before in
-    let start = sought.before.before in
-    let is = sym sought.states-of.ensures ∙ c.enum_told.given.1 in
-    sym (nothing (view start.args.l) start.args.number start.args.person (rw (live_all _ invariant.model) is))
-
-pub brief-spec : {M : Type 1} → statement M
-brief-spec =
-    tie.close
-    (tie.spec states-of-requires enum-known-found brief-over-requires enum_told returns returns-2)
+pub returns-in-Nothing : goal.returns-in-Nothing
+returns-in-Nothing c invariant =
+    let is = sym c.states_of-found.ensures ∙ c.in-Nothing.is in
+    sym (nothing (view c.args.l) c.args.number c.args.person (rw (live_all _ invariant.model) is))
