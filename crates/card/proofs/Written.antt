@@ -30,7 +30,7 @@ use Rattle.card.proofs.FormLaws.{length_head, head_are_bytes}
 
 field_bytes : (tag : ℕ) (v : List ℕ) → tag < 256 → is_bytes v ≡ true → is_bytes (field tag v) ≡ true
 unfolding all_in
-field_bytes tag v small e = rw (lt-ltb tag 256 small, all_append, bytes_are_bytes, e)
+field_bytes tag v small e = rw (lt-ltb tag 256 small, all_append (λ b. ltb b 256), bytes_are_bytes, e)
 
 -- one field for each of a list
 pub one_a_record : OneEach record_fields (λ r. field 0x03 (record_bytes r))

@@ -1,6 +1,6 @@
 -- An array that a loop fills with the images of another array's elements, one a turn.
 use Prim.Native.Nat.{ℕ, ◌<◌, ◌≤◌, ◌+◌, suc}
-use mathlib.Core.Path.{◌≡◌, refl, sym, ap, ◌∙◌}
+use mathlib.Core.Path.{◌≡◌, sym, ap, ◌∙◌}
 use mathlib.Core.List.{List, [], ◌∷◌, ◌++◌, map, map-append}
 use native.Mathlib.Omega.{arith}
 use lib.ListN.{length, take, set, get_or}
