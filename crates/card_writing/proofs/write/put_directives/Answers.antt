@@ -1,5 +1,4 @@
 -- `write::put_directives`: after i turns the fields of the first i stand one after another.
-use Prim.Native.Nat.{◌-◌}
 use mathlib.Core.Path.{◌≡◌}
 use mathlib.Core.List.{List, map}
 use native.Mathlib.Omega.{arith}

@@ -1,5 +1,4 @@
 -- `write::put_parents`: after q turns the first q parents stand one after another.
-use Prim.Native.Nat.{◌-◌}
 use mathlib.Core.Path.{refl}
 use native.Mathlib.Nat.{one-mul}
 use borrow.Author.Rules.{rules}

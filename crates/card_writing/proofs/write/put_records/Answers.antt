@@ -1,5 +1,4 @@
 -- `write::put_records`: after x turns the fields of the first x stand one after another.
-use Prim.Native.Nat.{◌-◌}
 use borrow.Author.Rules.{rules}
 use Rattle.sets.proofs.PutLaws.{filled_none, filled_next, filled_all}
 use Rattle.register.specs.Register.{no_record}

@@ -22,7 +22,10 @@ returns-then-least-role c =
 
 -- the register has the role
 a_role : (c : Else-least-role) → let args = c.args in args.role < length (contents args.g).roles
-a_role c = omega (arith, roles c.before, c.if-least-role.false)
+a_role c =
+    let r : length c.args.g.roles ≡ 16 = search rules in
+    let few : c.least.result ≡ length (contents c.args.g).roles = rw (length-take, r) c.least.ensures in
+    omega (arith, few, c.if-least-role.false)
 
 pub returns-then-origin-ge-ORIGINS : goal.returns-then-origin-ge-ORIGINS
 returns-then-origin-ge-ORIGINS c =
