@@ -33,6 +33,7 @@ module _ {A : Type 0} (p : A → Bool) where
   -- what is kept is of the list, and passes
   keep_read : (l : List A) (a : A) → Memᴰ a (keep p l) → Memᴰ a l × (p a ≡ true)
   unfolding keep
+  keep_read [] a i = elim i [ ]
   keep_read (x ∷ l) a i =
       let further : Memᴰ a (keep p l) → Memᴰ a (x ∷ l) × (p a ≡ true) =
       λ j. let (there, passed) = keep_read l a j in (mathlib.Core.List.Memᴰ.tail there, passed)

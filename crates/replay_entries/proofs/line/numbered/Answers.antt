@@ -2,11 +2,7 @@
 use mathlib.Core.Path.{refl}
 use native.Mathlib.Omega.{arith}
 use lib.ListN.{length-take}
-use Rattle.replay_entries.proofs.line.numbered.Statement.{statement}
-use Rattle.replay_entries.proofs.line.numbered.Tie as tie
+use Rattle.replay_entries.proofs.line.numbered.Goals as goal
 
-returns : tie.Need-returns
+pub returns : goal.returns
 returns c = record { count = simp length-take (omega arith); numbers = refl; bytes = refl }
-
-pub numbered-spec : {M : Type 1} → statement M
-numbered-spec = tie.close (tie.spec returns)
