@@ -1,7 +1,9 @@
 // A program's arguments as bytes in hexadecimal.
-ghost use Rattle.std.specs.Prelude.{◌≡◌, true, ◌++◌, ◌+◌, ◌*◌, ◌/◌, ◌<◌, ◌≤◌, length, slice_index_or, drop};
+ghost use Rattle.std.specs.Prelude.{◌≡◌, true, ◌++◌, ◌+◌, ◌*◌, ◌/◌, ◌<◌, ◌≤◌, length, get_or, drop};
 ghost use Rattle.sets.specs.Quantifiers.{all_in};
 ghost use Rattle.arguments.specs.Hexadecimal.{is_hex_digit, hex_digit_of, bytes_of, is_hexadecimal, Decodes, DecodesAs, AtMost};
+
+use std::env::Env;
 
 // The most digits that an argument may have.
 const MOST_HEX_DIGITS: usize = 1024;
@@ -64,7 +66,7 @@ fn is_hexadecimal(text: &[u8]) -> bool
 // Byte k of those that the digits write.
 fn byte_at(digits: &[u8], k: usize) -> u8
     requires { (all_in is_hex_digit digits.now ≡ true) × (2 * k + 2 ≤ length digits.now) }
-    ensures { result ≡ slice_index_or (bytes_of digits.now) k 0 }
+    ensures { result ≡ get_or (bytes_of digits.now) k 0 }
 {
     hex_digit_of(digits[2 * k]) * 16 + hex_digit_of(digits[2 * k + 1])
 }
@@ -107,11 +109,12 @@ fn decode_as(whole: bool, text: &[u8], out: &mut [u8]) -> Decoded
 
 // Argument i of the program, of which 0 is its name, as bytes at the start of the buffer. One that is missing or has more than
 // 1,024 digits is refused. Which bytes an argument has, no contract can say: only how many they are at most is promised.
-pub fn bytes_argument(i: usize, out: &mut [u8]) -> Decoded
+pub fn bytes_argument<E: Env>(rt: &E, i: usize, out: &mut [u8]) -> Decoded
     ensures { AtMost (length out.old) result }
 {
     let mut text = [0u8; MOST_HEX_DIGITS];
-    let n = os::arg(i, &mut text);
-    let whole = os::errno() == 0;
+    let got = rt.arg(i, &mut text);
+    let whole = got.is_ok();
+    let n = got.unwrap_or(0);
     decode_as(whole, &text[..n], out)
 }

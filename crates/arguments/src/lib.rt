@@ -5,6 +5,8 @@ ghost use Rattle.std.specs.Prelude.{◌≡◌, true, ◌≤◌, length};
 ghost use Rattle.sets.specs.Quantifiers.{all_in};
 ghost use Rattle.arguments.specs.Decimal.{is_between, is_digit, digit_of, value, most_digits, number_up_to, read_as, Bounded};
 
+use std::env::{Env, FillError};
+
 pub mod hexadecimal;
 
 // The most digits that a number may have, zeros in front among them.
@@ -101,11 +103,33 @@ fn read_as(whole: bool, text: &[u8], most: u64) -> Parsed
 
 // Argument i of the program, of which 0 is its name, as a number that is at most `most`. One that is missing or has more bytes
 // than a number has digits is refused. Which bytes an argument has, no contract can say: only the bound is promised.
-pub fn argument(i: usize, most: u64) -> Parsed
+pub fn argument<E: Env>(rt: &E, i: usize, most: u64) -> Parsed
     ensures { Bounded most result }
 {
     let mut text = [0u8; MOST_DIGITS];
-    let n = os::arg(i, &mut text);
-    let whole = os::errno() == 0;
+    let got = rt.arg(i, &mut text);
+    let whole = got.is_ok();
+    let n = got.unwrap_or(0);
     read_as(whole, &text[..n], most)
+}
+
+// Whether the program has an argument i, of any length.
+fn is_there<E: Env>(rt: &E, i: usize) -> bool {
+    match rt.arg(i, &mut []) {
+        Ok(_) => true,
+        Err(FillError::TooLong) => true,
+        Err(FillError::NotPresent) => false,
+    }
+}
+
+// How many arguments the program has, its name among them; `most` where there are more.
+pub fn count<E: Env>(rt: &E, most: usize) -> usize
+    ensures { result ≤ most }
+{
+    for i in 0..most {
+        if !is_there(rt, i) {
+            return i;
+        }
+    }
+    most
 }

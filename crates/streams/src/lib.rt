@@ -1,10 +1,15 @@
 // Standard input and standard output, with an error distinguished from the end of the input. A failure is named on standard error.
 #![tactic(auto)]
 
-ghost use Rattle.std.specs.Prelude.{◌-◌, ◌≤◌, ◌≡◌, length};
-ghost use Rattle.streams.specs.Reads.{step_of, Within, ended_by, Fills, status_of};
+ghost use Rattle.std.specs.Prelude.{◌-◌, ◌≤◌, ◌≡◌, false, pos, length, take, drop};
+ghost use Rattle.streams.specs.Reads.{step_of, Within, Moves, ended_by, Fills, FillsFrom};
+ghost use Rattle.streams.specs.Writes.{Puts, status_of, IsStatus, PutsLast};
+ghost use Rattle.std.specs.Process.{exit_status};
 
-use libc::{STDIN_FILENO, STDOUT_FILENO};
+use std::fmt::InlineText;
+use std::io;
+use std::io::{Read, Write};
+use std::process::ExitCode;
 
 // The exit status of a program whose input or output failed.
 pub const FAILED: i32 = 2;
@@ -17,7 +22,7 @@ pub enum Step {
     // the input ends
     End,
     // the read failed
-    Error,
+    Error(io::Error),
 }
 
 // What the filling of a buffer gives.
@@ -30,33 +35,48 @@ pub enum Filled {
 }
 
 // A read that failed is `Error`, never `End`.
-fn step_of(got: isize) -> Step
+fn step_of(got: io::Result<usize>) -> Step
     ensures { result ≡ step_of got }
 {
-    if got < 0 {
-        return Step::Error;
+    match got {
+        Ok(0) => Step::End,
+        Ok(n) => Step::More(n),
+        Err(error) => Step::Error(error),
     }
-    if got > 0 {
-        return Step::More(got as usize);
-    }
-    Step::End
 }
 
-// One read of standard input into the buffer, from place `at` on.
-fn read_at(buf: &mut [u8], at: usize) -> Step
+// One read of the input into the buffer, from place `at` on. One that a signal interrupts has failed.
+fn read_at<R: Read>(input: &mut R, buf: &mut [u8], at: usize) -> Step
     requires { at ≤ length buf.old }
-    ensures { Within result (length buf.old - at) }
+    ensures within { Within result (length buf.old - at) }
+    ensures front { take at buf.new ≡ take at buf.old }
+    ensures bytes { Moves result (R.remaining input.old) (R.remaining input.new) (drop at buf.new) }
 {
-    step_of(libc::read(STDIN_FILENO, &mut buf[at..]))
+    step_of(input.read(&mut buf[at..]))
+}
+
+// The system's words for an error, without the number that std puts after them.
+fn words_of(text: &str) -> &str {
+    match text.split_once(" (os error ") {
+        Some((words, _)) => words,
+        None => text,
+    }
+}
+
+// Names a failure on standard error. Where that fails too, nothing is said.
+fn fail<E: Eprint>(rt: &E, what: &str, error: io::Error) {
+    let text = InlineText::<256>::of(error);
+    let words = words_of(text.as_str());
+    let _ = rt.eprintln(format_args!("{what}: {words}"));
 }
 
 // What the last read leaves, after so many bytes before it. A failure is named on standard error.
-fn ended(step: Step, done: usize) -> Filled
+fn ended<E: Eprint>(rt: &E, step: Step, done: usize) -> Filled
     ensures { result ≡ ended_by step done }
 {
     match step {
-        Step::Error => {
-            os::fail(b"standard input");
+        Step::Error(error) => {
+            fail(rt, "standard input", error);
             Filled::Failed
         }
         Step::End => Filled::Bytes(done),
@@ -64,38 +84,66 @@ fn ended(step: Step, done: usize) -> Filled
     }
 }
 
-// Reads standard input until the buffer is full, the input ends or a read fails.
-pub fn fill(buf: &mut [u8]) -> Filled
-    ensures { Fills result buf.new }
+// Reads the input until the buffer is full, the input ends or a read fails.
+pub fn fill<E: Eprint, R: Read>(rt: &E, input: &mut R, buf: &mut [u8]) -> Filled
+    ensures fills { Fills result buf.new }
+    ensures bytes { FillsFrom result (R.remaining input.old) (R.remaining input.new) buf.new }
 {
     let mut done = 0usize;
     while done < buf.len() {
-        let step = read_at(buf, done);
+        let step = read_at(input, buf, done);
         let Step::More(n) = step else {
-            return ended(step, done);
+            return ended(rt, step, done);
         };
         done += n;
     }
     Filled::Bytes(done)
 }
 
-// Writes all of the bytes to standard output, or names the failure on standard error and answers false.
-pub fn put(bytes: &[u8]) -> bool {
-    let written = io::write_all(STDOUT_FILENO, bytes);
-    if !written {
-        os::fail(b"standard output");
+// Names the failure of a write on standard error, and answers false.
+fn unwritten<E: Eprint>(rt: &E, error: io::Error) -> bool
+    ensures { result ≡ false }
+{
+    fail(rt, "standard output", error);
+    false
+}
+
+// Writes all of the bytes to the output, or names the failure on standard error and answers false. A write that a signal interrupts has
+// failed, and so has one that takes nothing, for which the system has the words of error 0.
+pub fn put<E: Eprint, W: Write>(rt: &E, output: &mut W, bytes: &[u8]) -> bool
+    ensures { Puts result (W.contents output.old) (W.contents output.new) bytes.now }
+{
+    let mut at = 0;
+    while at < bytes.len() {
+        match output.write(&bytes[at..]) {
+            Ok(0) => return unwritten(rt, io::Error::from_raw_os_error(0)),
+            Ok(n) => at += n,
+            Err(error) => return unwritten(rt, error),
+        }
     }
-    written
+    true
 }
 
 // The exit status of a program: where its output was not written whole it failed, whatever it had to say.
 pub fn status(written: bool, said: i32) -> i32
-    ensures { result ≡ status_of written said }
+    ensures value { result ≡ status_of written said }
+    ensures known { IsStatus said → IsStatus result }
 {
     if written { said } else { FAILED }
 }
 
 // Writes the last bytes of a program that succeeds, and answers its exit status.
-pub fn put_last(bytes: &[u8]) -> i32 {
-    status(put(bytes), 0)
+pub fn put_last<E: Eprint, W: Write>(rt: &E, output: &mut W, bytes: &[u8]) -> i32
+    ensures written { PutsLast result (W.contents output.old) (W.contents output.new) bytes.now }
+    ensures known { IsStatus result }
+{
+    status(put(rt, output, bytes), 0)
+}
+
+// The exit status as `main` answers it.
+pub fn exit_code(status: i32) -> ExitCode
+    requires { IsStatus status }
+    ensures { pos (exit_status result) ≡ status }
+{
+    ExitCode::from(status as u8)
 }
