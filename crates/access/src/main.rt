@@ -1,6 +1,8 @@
-// The program `access` without its exit status.
+// The program `access`.
 #![tactic(auto)]
 
-fn main() {
-    program_access::access_main();
+use std::process::ExitCode;
+
+fn main(rt: HostRuntime) -> ExitCode {
+    streams::exit_code(program_access::access_main(&rt, &mut rt.stdin(), &mut rt.stdout()))
 }

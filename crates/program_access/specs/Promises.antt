@@ -1,5 +1,6 @@
 -- What the parts of `access` promise. What stands in the buffer after the text is free.
-use Rattle.std.specs.Prelude.{ℕ, ◌≡◌, Bool, List}
+use Rattle.std.specs.Prelude.{ℕ, ◌≡◌, ◌⊎◌, Bool, false, List, ℤ, pos, Option}
+use Rattle.std.specs.Io.KnownBytes.{Appends, Keeps}
 use Rattle.sets.specs.declared.record_set.RecordSet.{RecordSet}
 use Rattle.sets.specs.RecordSets.{record_set_of}
 use Rattle.directive.specs.declared.Requester.{Requester}
@@ -7,7 +8,9 @@ use Rattle.ledger_model.specs.Preview.{decision_changes}
 use Rattle.ledger.specs.declared.Ledger.{Ledger}
 use Rattle.ledger.specs.State.{view}
 use Rattle.text.specs.Puts.{StartsWith}
+use Rattle.streams.specs.Writes.{Puts}
 use Rattle.program_access.specs.declared.Shown.{Shown}
+use Rattle.program_access.specs.Arguments.{status_for}
 use Rattle.program_access.specs.Table.{OptionalDraft, access_text, is_table}
 
 -- the text at the start of the buffer, and whether it is a table
@@ -22,3 +25,14 @@ Shows card d w shown out = Prints (access_text card d w) (is_table card d w) sho
 -- the set of the records whose decision changes from l to `after`
 abbrev pub HasChanges : Ledger → Ledger → Requester → RecordSet → Type 0
 HasChanges l after w records = records ≡ record_set_of (decision_changes (view l) (view after) w)
+
+-- nothing is written where a read failed, and not all of the text where the write failed
+abbrev pub Fails : List ℕ → Option (List ℕ) → Option (List ℕ) → Type 0
+Fails text before after = Keeps before after ⊎ Puts false before after text
+
+-- The exit status for a card, a draft and a requester, and what is written, where the bytes that the output holds are known. No contract
+-- can say which reads and writes fail.
+abbrev pub Answers : List ℕ → OptionalDraft → Requester → ℤ → Option (List ℕ) → Option (List ℕ) → Type 0
+Answers card d w status before after =
+    ((status ≡ status_for (is_table card d w)) × Appends before after (access_text card d w))
+    ⊎ ((status ≡ pos 2) × Fails (access_text card d w) before after)

@@ -2,16 +2,19 @@
 // line also says what its commit would change, and a last line how many records change.
 #![tactic(auto)]
 
-ghost use Rattle.std.specs.Prelude.{◌≡◌, ◌≤◌, length};
+ghost use Rattle.std.specs.Prelude.{◌≡◌, ◌≤◌, length, take, IfSome};
+ghost use Rattle.streams.specs.Writes.{IsStatus};
 ghost use Rattle.arguments.specs.Decimal.{Bounded};
 ghost use Rattle.program_access.specs.Arguments.{asked_by, with_draft, DraftAtMost, status_for};
-ghost use Rattle.program_access.specs.Table.{draft_where};
-ghost use Rattle.program_access.specs.Promises.{Shows};
+ghost use Rattle.directive.specs.declared.Requester.{Requester};
+ghost use Rattle.program_access.specs.Table.{OptionalDraft, draft_where};
+ghost use Rattle.program_access.specs.Promises.{Shows, Answers};
 
 use arguments::Parsed;
 use arguments::hexadecimal::Decoded;
 use directive::Requester;
-use libc::STDERR_FILENO;
+use std::env::Env;
+use std::io::{Read, Write};
 use streams::Filled;
 
 mod draft;
@@ -109,25 +112,25 @@ fn with_draft(asked: Asked, draft: Decoded) -> Asked
 }
 
 // What the arguments say: person, role, origin and purpose, and the draft where there is a fifth one.
-fn from_arguments(draft: &mut [u8]) -> Asked
+fn from_arguments<E: Env>(rt: &E, draft: &mut [u8]) -> Asked
     ensures { DraftAtMost (length draft.old) result }
 {
-    let count = os::arg_count();
+    let count = arguments::count(rt, 7);
     if count < 5 {
         return Asked::Unusable;
     }
     if count > 6 {
         return Asked::Unusable;
     }
-    let person = arguments::argument(1, 65535);
-    let role = arguments::argument(2, 65535);
-    let origin = arguments::argument(3, 255);
-    let purpose = arguments::argument(4, 255);
+    let person = arguments::argument(rt, 1, 65535);
+    let role = arguments::argument(rt, 2, 65535);
+    let origin = arguments::argument(rt, 3, 255);
+    let purpose = arguments::argument(rt, 4, 255);
     let asked = requester_of(person, role, origin, purpose);
     if count == 5 {
         return asked;
     }
-    with_draft(asked, arguments::hexadecimal::bytes_argument(5, draft))
+    with_draft(asked, arguments::hexadecimal::bytes_argument(rt, 5, draft))
 }
 
 // The exit status for what is printed.
@@ -137,30 +140,45 @@ fn status_of(is_table: bool) -> i32
     if is_table { 0 } else { 1 }
 }
 
-// The whole program, which answers its exit status: 0 for a table, 1 where the card, the draft or the requester is refused, 2 where
-// the arguments cannot be used or a read or the write failed. The card is the first 65,535 bytes of standard input; no longer one is
-// accepted. Its clock is the minute of every request.
-#[unsafe(no_mangle)]
-pub extern "C" fn access_main() -> i32 {
-    let mut draft = [0u8; 512];
-    let asked = from_arguments(&mut draft);
-    let Asked::By(a) = asked else {
-        io::write_all(
-            STDERR_FILENO,
-            b"usage: access PERSON ROLE ORIGIN PURPOSE [DRAFT] < CARD\n",
-        );
+// The program after its arguments, which answers its exit status: 0 for a table, 1 where the card, the draft or the requester is refused,
+// 2 where a read or the write failed. The card is the first 65,535 bytes of the input; no longer one is accepted. Its clock is the
+// minute of every request.
+pub fn run<E: Eprint, R: Read, W: Write>(
+    rt: &E,
+    input: &mut R,
+    output: &mut W,
+    has_draft: bool,
+    draft: &[u8],
+    w: Requester,
+) -> i32
+    ensures known { IsStatus result }
+    ensures answers { IfSome (R.remaining input.old) (λ bytes. Answers (take 65535 bytes) (draft_where has_draft draft.now) w result (W.contents output.old) (W.contents output.new)) }
+{
+    let mut card = [0u8; 65535];
+    let filled = streams::fill(rt, input, &mut card);
+    let Filled::Bytes(n) = filled else {
         return streams::FAILED;
     };
-    let mut input = [0u8; 65535];
-    let filled = streams::fill(&mut input);
-    let Filled::Bytes(n) = filled else {
+    let mut out = [0u8; 18480];
+    let shown = access(&card[..n], has_draft, draft, w, &mut out);
+    let end = shown.size;
+    let written = streams::put(rt, output, &out[..end]);
+    streams::status(written, status_of(shown.is_table))
+}
+
+// The whole program, which answers its exit status: that of `run`, or 2 where the arguments cannot be used. Then it prints its usage on
+// standard error, and reads nothing.
+pub fn access_main<E: Env + Eprint, R: Read, W: Write>(rt: &E, input: &mut R, output: &mut W) -> i32
+    ensures known { IsStatus result }
+    ensures answers { (d : OptionalDraft) × (w : Requester) × IfSome (R.remaining input.old) (λ bytes. Answers (take 65535 bytes) d w result (W.contents output.old) (W.contents output.new)) }
+{
+    let mut draft = [0u8; 512];
+    let asked = from_arguments(rt, &mut draft);
+    let Asked::By(a) = asked else {
+        let _ = rt.eprintln("usage: access PERSON ROLE ORIGIN PURPOSE [DRAFT] < CARD");
         return streams::FAILED;
     };
     let w = a.requester;
     let size = a.size;
-    let mut out = [0u8; 18480];
-    let shown = access(&input[..n], a.has_draft, &draft[..size], w, &mut out);
-    let end = shown.size;
-    let written = streams::put(&out[..end]);
-    streams::status(written, status_of(shown.is_table))
+    run(rt, input, output, a.has_draft, &draft[..size], w)
 }
