@@ -1,11 +1,11 @@
 -- The number that a text writes in decimal.
-use Rattle.std.specs.Prelude.{ℕ, ◌+◌, ◌-◌, ◌*◌, ◌≤◌, Bool, ◌&&◌, List, [], ◌∷◌, leb, ltb, length}
+use Rattle.std.specs.Prelude.{ℕ, ◌+◌, ◌-◌, ◌*◌, ◌≤◌, Bool, ◌&&◌, List, [], ◌∷◌, nat_le, nat_lt, length}
 use Rattle.sets.specs.Quantifiers.{pick, all_in}
 use Rattle.arguments.specs.declared.Parsed.{Parsed}
 use Rattle.arguments.specs.declared.Parsed.TheVariants.{Number, NotANumber}
 
 abbrev pub is_between : ℕ → ℕ → ℕ → Bool
-is_between low b high = leb low b && leb b high
+is_between low b high = nat_le low b && nat_le b high
 
 -- the byte is an ASCII digit, from `0` to `9`
 abbrev pub is_digit : ℕ → Bool
@@ -26,7 +26,7 @@ value s = value_from 0 s
 
 -- not empty, and every byte is a digit
 abbrev pub is_decimal : List ℕ → Bool
-is_decimal s = ltb 0 (length s) && all_in is_digit s
+is_decimal s = nat_lt 0 (length s) && all_in is_digit s
 
 abbrev pub most_digits : ℕ
 most_digits = 5
@@ -35,7 +35,7 @@ most_digits = 5
 -- Refused: the empty text, a sign, a blank or any other byte that is no digit, more than five digits, a number above the bound.
 unfoldable pub number_up_to : ℕ → List ℕ → Parsed
 number_up_to most s =
-    pick (is_decimal s && leb (length s) most_digits && leb (value s) most) (Number (value s)) NotANumber
+    pick (is_decimal s && nat_le (length s) most_digits && nat_le (value s) most) (Number (value s)) NotANumber
 
 -- an argument that is missing or does not stand whole in the text is refused
 abbrev pub read_as : Bool → ℕ → List ℕ → Parsed

@@ -1,5 +1,5 @@
 -- The bytes that a text writes in hexadecimal.
-use Rattle.std.specs.Prelude.{ℕ, ◌+◌, ◌-◌, ◌*◌, ◌/◌, ◌%◌, ◌≤◌, ◌≡◌, Bool, true, false, ◌&&◌, ◌||◌, List, [], ◌∷◌, ◌++◌, eqb, leb, length, drop}
+use Rattle.std.specs.Prelude.{ℕ, ◌+◌, ◌-◌, ◌*◌, ◌/◌, ◌%◌, ◌≤◌, ◌≡◌, Bool, true, false, ◌&&◌, ◌||◌, List, [], ◌∷◌, ◌++◌, nat_eq, nat_le, length, drop}
 use Rattle.sets.specs.Quantifiers.{pick, all_in}
 use Rattle.arguments.specs.Decimal.{is_between, is_digit, digit_of}
 use Rattle.arguments.specs.declared.hexadecimal.Decoded.{Decoded}
@@ -28,11 +28,11 @@ bytes_of (a ∷ b ∷ s) = (hex_digit_of a * 16 + hex_digit_of b) ∷ bytes_of s
 
 -- every byte is a digit, and they are even in number; the empty text writes no bytes
 abbrev pub is_hexadecimal : List ℕ → Bool
-is_hexadecimal s = all_in is_hex_digit s && eqb (length s % 2) 0
+is_hexadecimal s = all_in is_hex_digit s && nat_eq (length s % 2) 0
 
 -- the text writes bytes, and these fit a buffer of n
 abbrev pub is_decoded : List ℕ → ℕ → Bool
-is_decoded s n = is_hexadecimal s && leb (length s / 2) n
+is_decoded s n = is_hexadecimal s && nat_le (length s / 2) n
 
 -- What a text is decoded to, and the buffer after it: the bytes at its start where they fit it, and otherwise the buffer as it was.
 pub record Decodes (s before : List ℕ) (r : Decoded) (after : List ℕ) : Type 0 where

@@ -1,5 +1,5 @@
 // A program's arguments as bytes in hexadecimal.
-ghost use Rattle.std.specs.Prelude.{◌≡◌, true, ◌++◌, ◌+◌, ◌*◌, ◌/◌, ◌<◌, ◌≤◌, length, get_or, drop};
+ghost use Rattle.std.specs.Prelude.{◌≡◌, true, ◌++◌, ◌+◌, ◌*◌, ◌/◌, ◌<◌, ◌≤◌, length, slice_index_or, drop};
 ghost use Rattle.sets.specs.Quantifiers.{all_in};
 ghost use Rattle.arguments.specs.Hexadecimal.{is_hex_digit, hex_digit_of, bytes_of, is_hexadecimal, Decodes, DecodesAs, AtMost};
 
@@ -66,7 +66,7 @@ fn is_hexadecimal(text: &[u8]) -> bool
 // Byte k of those that the digits write.
 fn byte_at(digits: &[u8], k: usize) -> u8
     requires { (all_in is_hex_digit digits.now ≡ true) × (2 * k + 2 ≤ length digits.now) }
-    ensures { result ≡ get_or (bytes_of digits.now) k 0 }
+    ensures { result ≡ slice_index_or (bytes_of digits.now) k 0 }
 {
     hex_digit_of(digits[2 * k]) * 16 + hex_digit_of(digits[2 * k + 1])
 }
