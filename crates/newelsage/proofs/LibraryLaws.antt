@@ -20,7 +20,7 @@ use Rattle.replay_entries.specs.declared.entry.EntryAnswer.{EntryAnswer}
 use Rattle.replay_entries.specs.declared.entry.EntryResult.{EntryResult}
 use Rattle.replay_entries.specs.declared.line.Line.{Line}
 use Rattle.replay_entries.specs.Entries.{Entry, malformed, Said, said_of, said_to, call_entry, query_entry, decide_entry, entry_of, is_call, changes, line_of, shown_of, Shows, Performed, Performs}
-use Rattle.newelsage.specs.Answers.{Told, told, Answered, told_said, told_read, Inquiry, counts, token, entry, inquiry_of, not_aLedger_status}
+use Rattle.newelsage.specs.Answers.{Told, told, Answered, told_said, told_read, Inquiry, counts, token, entry, inquiry_of, not_a_ledger_status}
 use Rattle.newelsage.specs.Library.{ReadIn, CalledIn, AskedOn, AskedIn}
 
 -- a stored ledger begins with the stamp
@@ -50,7 +50,7 @@ read_in card r status answer after reads tells is =
     }
 
 pub not_called : (t : StoredLedger) (tag : ℕ) (v : List ℕ) (status : ℕ) (answer : List ℕ)
-    → (t.stamp ≡ the_stamp → ⊥) → Answered status answer (told not_aLedger_status []) → CalledIn t tag v status t answer
+    → (t.stamp ≡ the_stamp → ⊥) → Answered status answer (told not_a_ledger_status []) → CalledIn t tag v status t answer
 not_called t tag v status answer other tells =
     record { some = _; told = tells; other = λ _. (refl, refl); ledger = λ l is invariant. absurd (other (stamped t l is)) }
 
@@ -75,7 +75,7 @@ called t m tag v r line n status answer after stamp is_m performs shows tells is
     }
 
 pub not_asked : (t : StoredLedger) (tag : ℕ) (v before : List ℕ) (status : ℕ) (answer : List ℕ)
-    → (t.stamp ≡ the_stamp → ⊥) → Answered status answer (told not_aLedger_status []) → AskedIn t tag v before status before answer
+    → (t.stamp ≡ the_stamp → ⊥) → Answered status answer (told not_a_ledger_status []) → AskedIn t tag v before status before answer
 not_asked t tag v before status answer other tells =
     record { some = _; told = tells; other = λ _. (refl, refl); ledger = λ l is invariant. absurd (other (stamped t l is)) }
 

@@ -17,8 +17,8 @@ malformed_status = 101
 abbrev pub too_short_status : ℕ
 too_short_status = 102
 
-abbrev pub not_aLedger_status : ℕ
-not_aLedger_status = 103
+abbrev pub not_a_ledger_status : ℕ
+not_a_ledger_status = 103
 
 -- a status and the values that come with it
 pub record Told : Type 0 where

@@ -11,7 +11,7 @@ use Rattle.ledger_stored.specs.declared.StoredLedger.{StoredLedger}
 use Rattle.ledger_stored.specs.Stored.{the_stamp, the_size, stored_of}
 use Rattle.card.specs.Reading.{reading}
 use Rattle.replay_entries.specs.Entries.{Entry, call_entry, said_to, after_entry, changes}
-use Rattle.newelsage.specs.Answers.{too_short_status, not_aLedger_status, Told, told as said, Answered, told_said, told_read, Inquiry, inquiry_of, told_to, buffer_to}
+use Rattle.newelsage.specs.Answers.{too_short_status, not_a_ledger_status, Told, told as said, Answered, told_said, told_read, Inquiry, inquiry_of, told_to, buffer_to}
 
 -- newelsage_empty: the empty ledger, which keeps the invariant.
 pub record Empties (t : StoredLedger) (size status : ℕ) (after : StoredLedger) : Type 0 where
@@ -46,7 +46,7 @@ pub record CalledOn (l : Ledger) (e : Entry) (status : ℕ) (after : StoredLedge
 pub record CalledIn (t : StoredLedger) (tag : ℕ) (v : List ℕ) (status : ℕ) (after : StoredLedger) (answer : List ℕ) : Type 0 where
   pub some : Told
   pub told : Answered status answer some
-  pub other : nat_eq t.stamp the_stamp ≡ false → (some ≡ said not_aLedger_status []) × (after ≡ t)
+  pub other : nat_eq t.stamp the_stamp ≡ false → (some ≡ said not_a_ledger_status []) × (after ≡ t)
   pub ledger : (l : Ledger) → t ≡ stored_of l → Invariant l → CalledOn l (call_entry tag v) status after answer
 
 -- newelsage_call
@@ -62,7 +62,7 @@ pub record AskedOn (l : Ledger) (q : Inquiry) (before : List ℕ) (status : ℕ)
 pub record AskedIn (t : StoredLedger) (tag : ℕ) (v before : List ℕ) (status : ℕ) (after answer : List ℕ) : Type 0 where
   pub some : Told
   pub told : Answered status answer some
-  pub other : nat_eq t.stamp the_stamp ≡ false → (some ≡ said not_aLedger_status []) × (after ≡ before)
+  pub other : nat_eq t.stamp the_stamp ≡ false → (some ≡ said not_a_ledger_status []) × (after ≡ before)
   pub ledger : (l : Ledger) → t ≡ stored_of l → Invariant l → AskedOn l (inquiry_of tag v) before status after answer
 
 -- newelsage_ask; the ledger's memory is lent to be read alone

@@ -15,24 +15,21 @@ pub mod calls;
 const TOO_SHORT: u64 = 102;
 
 // How many bytes a ledger has.
-#[unsafe(no_mangle)]
-pub extern "C" fn newelsage_size() -> usize
+pub fn newelsage_size() -> usize
     ensures { result ≡ the_size }
 {
     ledger_stored::SIZE
 }
 
 // The version of these bytes.
-#[unsafe(no_mangle)]
-pub extern "C" fn newelsage_version() -> u64
+pub fn newelsage_version() -> u64
     ensures { result ≡ the_stamp % 65536 }
 {
     ledger_stored::STAMP % 65536
 }
 
 // Makes the empty ledger.
-#[unsafe(no_mangle)]
-pub extern "C" fn newelsage_empty(ledger: &mut StoredLedger, size: usize) -> u64
+pub fn newelsage_empty(ledger: &mut StoredLedger, size: usize) -> u64
     ensures { Empties ledger.old size result ledger.new }
 {
     if size < ledger_stored::SIZE {
@@ -44,8 +41,7 @@ pub extern "C" fn newelsage_empty(ledger: &mut StoredLedger, size: usize) -> u64
 }
 
 // Reads a card into the ledger.
-#[unsafe(no_mangle)]
-pub extern "C" fn newelsage_read(
+pub fn newelsage_read(
     ledger: &mut StoredLedger,
     size: usize,
     card: &[u8],
@@ -62,8 +58,7 @@ pub extern "C" fn newelsage_read(
 }
 
 // A call that can change the ledger.
-#[unsafe(no_mangle)]
-pub extern "C" fn newelsage_call(
+pub fn newelsage_call(
     ledger: &mut StoredLedger,
     size: usize,
     tag: u8,
@@ -81,8 +76,7 @@ pub extern "C" fn newelsage_call(
 }
 
 // A call that changes nothing of the ledger; a write is lent the start of the buffer.
-#[unsafe(no_mangle)]
-pub extern "C" fn newelsage_ask(
+pub fn newelsage_ask(
     ledger: &StoredLedger,
     size: usize,
     tag: u8,
