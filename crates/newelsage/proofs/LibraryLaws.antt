@@ -2,7 +2,7 @@
 use Prim.Native.Nat.{ℕ}
 use mathlib.Core.Path.{◌≡◌, refl, sym, ap, subst, ◌∙◌}
 use mathlib.Core.Bool.{true≢false}
-use mathlib.Core.List.{List, [], ◌∷◌}
+use mathlib.Core.List.{List, []}
 use lib.ListN.{length}
 use Rattle.sets.specs.Numbers.{number_at}
 use borrow.Author.Tests.{eq-eqb, ne_eqb}
@@ -19,7 +19,7 @@ use Rattle.card.specs.Promises.{Reads}
 use Rattle.replay_entries.specs.declared.entry.EntryAnswer.{EntryAnswer}
 use Rattle.replay_entries.specs.declared.entry.EntryResult.{EntryResult}
 use Rattle.replay_entries.specs.declared.line.Line.{Line}
-use Rattle.replay_entries.specs.Entries.{Entry, malformed, Said, said_of, said_to, call_entry, query_entry, decide_entry, entry_of, is_call, changes, line_of, shown_of, Shows, Performed, Performs}
+use Rattle.replay_entries.specs.Entries.{Entry, malformed, Said, said_of, call_entry, query_entry, decide_entry, entry_of, is_call, changes, line_of, Shows, Performed, Performs}
 use Rattle.newelsage.specs.Answers.{Told, told, Answered, told_said, told_read, Inquiry, counts, token, entry, inquiry_of, not_a_ledger_status}
 use Rattle.newelsage.specs.Library.{ReadIn, CalledIn, AskedOn, AskedIn}
 

@@ -10,8 +10,7 @@ use Rattle.ledger.specs.State.{view}
 use Rattle.ledger.specs.Invariant.{Invariant}
 use Rattle.ledger_stored.specs.declared.StoredLedger.{StoredLedger}
 use Rattle.ledger_stored.specs.Stored.{stored_of}
-use Rattle.card.specs.Reading.{reading}
-use Rattle.replay_entries.specs.Entries.{Entry, call_entry, said_to, after_entry}
+use Rattle.replay_entries.specs.Entries.{Entry, call_entry, said_to}
 use Rattle.newelsage.specs.Answers.{Told, told, Holds, Answered, told_said}
 use Rattle.newelsage.specs.Lists.{Made, none, more, book_tells, book_after, KeptBy, WholeLists}
 
