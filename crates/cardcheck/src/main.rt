@@ -1,6 +1,8 @@
-// The program `cardcheck` without its arguments and its exit status.
+// The program `cardcheck`.
 #![tactic(auto)]
 
-fn main() {
-    program_cardcheck::run();
+use std::process::ExitCode;
+
+fn main(rt: HostRuntime) -> ExitCode {
+    streams::exit_code(program_cardcheck::cardcheck_main(&rt, &mut rt.stdin(), &mut rt.stdout()))
 }

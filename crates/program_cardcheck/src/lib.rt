@@ -6,8 +6,11 @@ ghost use Rattle.std.specs.Prelude.{[]};
 ghost use Rattle.card.specs.Reading.{card_line};
 ghost use Rattle.text.specs.Text.{line_text};
 ghost use Rattle.text.specs.Puts.{StartsWith};
+ghost use Rattle.streams.specs.Writes.{IsStatus};
+ghost use Rattle.program_cardcheck.specs.Runs.{Answers};
 
-use libc::STDERR_FILENO;
+use std::env::Env;
+use std::io::{Read, Write};
 use streams::Filled;
 
 // The line of the card with these bytes, at the start of the buffer; its length.
@@ -21,23 +24,32 @@ fn reply(card: &[u8], out: &mut [u8; 85]) -> usize
 
 // The program after its arguments, which answers its exit status: 0, also for a refused card, whose line says so; 2 where a read or the
 // write failed. Then no whole line is printed, and standard error says why.
-pub fn run() -> i32 {
-    let mut input = [0u8; 65535];
-    let filled = streams::fill(&mut input);
+pub fn run<E: Eprint, R: Read, W: Write>(rt: &E, input: &mut R, output: &mut W) -> i32
+    ensures known { IsStatus result }
+    ensures answers { Answers result (R.remaining input.old) (W.contents output.old) (W.contents output.new) }
+{
+    let mut card = [0u8; 65535];
+    let filled = streams::fill(rt, input, &mut card);
     let Filled::Bytes(n) = filled else {
         return streams::FAILED;
     };
     let mut out = [0u8; 85];
-    let k = reply(&input[..n], &mut out);
-    streams::put_last(&out[..k])
+    let k = reply(&card[..n], &mut out);
+    streams::put_last(rt, output, &out[..k])
 }
 
 // The whole program. It takes no arguments: with any it prints its usage, reads nothing and has status 2.
-#[unsafe(no_mangle)]
-pub extern "C" fn cardcheck_main() -> i32 {
-    if os::arg_count() != 1 {
-        io::write_all(STDERR_FILENO, b"usage: cardcheck < CARD\n");
+pub fn cardcheck_main<E: Env + Eprint, R: Read, W: Write>(
+    rt: &E,
+    input: &mut R,
+    output: &mut W,
+) -> i32
+    ensures known { IsStatus result }
+    ensures answers { Answers result (R.remaining input.old) (W.contents output.old) (W.contents output.new) }
+{
+    if arguments::count(rt, 2) != 1 {
+        let _ = rt.eprintln("usage: cardcheck < CARD");
         return streams::FAILED;
     }
-    run()
+    run(rt, input, output)
 }
