@@ -6,11 +6,10 @@ use mathlib.Core.List.{List}
 use borrow.Author.Rules.{rules}
 use lib.Dec.{ltb}
 use lib.ListN.{length}
-use Rattle.io.specs.Counts.{IsPrefixLen}
 use Rattle.sets.specs.Numbers.{number_at}
 use Rattle.sets.specs.Quantifiers.{pick}
+use Rattle.streams.specs.Reads.{IsPrefixLen}
 use Rattle.streams.specs.declared.Filled.{Filled}
-use Rattle.streams.specs.declared.Filled.TheVariants as Filled
 use Rattle.program_replay.specs.Promises.{value_part, PartRead}
 use Rattle.program_replay.specs.declared.input.Part.TheVariants.{Cut, Whole}
 

@@ -1,11 +1,10 @@
 -- What the parts of a replay promise. Free are what stands in the buffer after the line and, after a card or a call that succeeds, what
--- stands past a count of the ledger; what is read and what is printed no contract can say.
+-- stands past a count of the ledger; which bytes standard input gives and standard output takes no contract can say.
 use Rattle.std.specs.Prelude.{ℕ, ◌-◌, ◌≡◌, true, false, List, [], length, nat_eq, nat_lt}
-use Rattle.io.specs.Counts.{IsPrefixLen}
 use Rattle.sets.specs.Quantifiers.{pick}
 use Rattle.sets.specs.Numbers.{number_at}
+use Rattle.streams.specs.Reads.{IsPrefixLen}
 use Rattle.streams.specs.declared.Filled.{Filled}
-use Rattle.streams.specs.declared.Filled.TheVariants as Filled
 use Rattle.ledger.specs.declared.Ledger.{Ledger}
 use Rattle.ledger.specs.State.{view, empty_ledger}
 use Rattle.ledger.specs.Invariant.{Invariant}
@@ -38,7 +37,7 @@ size_of Failed = 0
 size_of (Whole n) = n
 
 -- A part: its length fits the buffer, and where it is whole it is what the head's last two bytes write. Which bytes are read, and so which
--- of the four cases comes, is free: no contract can say what is read.
+-- of the four cases comes, is free.
 pub record PartRead (head value : List ℕ) (p : Part) : Type 0 where
   pub counts : IsPrefixLen (size_of p) value
   pub size : (n : ℕ) → p ≡ Whole n → n ≡ number_at (length head - 2) 2 head

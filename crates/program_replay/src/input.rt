@@ -2,6 +2,7 @@
 ghost use Rattle.std.specs.Prelude.{◌≡◌, ◌≤◌, length};
 ghost use Rattle.program_replay.specs.Promises.{head_part, value_part, PartRead};
 
+use std::io::Read;
 use streams::Filled;
 
 #[derive(Clone, Copy)]
@@ -46,11 +47,16 @@ fn value_part(filled: Filled, size: usize) -> Part
 }
 
 // Reads a head, and a value of the length that the head's last two bytes give. Any such length has room in `value`.
-pub fn read_part(head: &mut [u8], value: &mut [u8]) -> Part
+pub fn read_part<E: Eprint, R: Read>(
+    rt: &E,
+    input: &mut R,
+    head: &mut [u8],
+    value: &mut [u8],
+) -> Part
     requires { (2 ≤ length head.old) × (65535 ≤ length value.old) }
     ensures { PartRead head.new value.new result }
 {
-    let got = streams::fill(head);
+    let got = streams::fill(rt, input, head);
     let first = head_part(got, head.len());
     match first {
         Part::Ended => return Part::Ended,
@@ -59,6 +65,6 @@ pub fn read_part(head: &mut [u8], value: &mut [u8]) -> Part
         Part::Whole(_) => {}
     }
     let size = sets::number::get2(head, head.len() - 2) as usize;
-    let more = streams::fill(&mut value[..size]);
+    let more = streams::fill(rt, input, &mut value[..size]);
     value_part(more, size)
 }

@@ -1,6 +1,8 @@
-// The program `replay` without its arguments and its exit status.
+// The program `replay`.
 #![tactic(auto)]
 
-fn main() {
-    program_replay::run();
+use std::process::ExitCode;
+
+fn main(rt: HostRuntime) -> ExitCode {
+    streams::exit_code(program_replay::replay_main(&rt, &mut rt.stdin(), &mut rt.stdout()))
 }
