@@ -17,7 +17,7 @@ use Rattle.arguments.specs.Hexadecimal.{is_lowercase, is_uppercase, is_hex_digit
 use Rattle.arguments.specs.declared.hexadecimal.Decoded.{Decoded}
 use Rattle.arguments.specs.declared.hexadecimal.Decoded.TheVariants.{Bytes, NotBytes}
 
-an_uppercase : (b : ℕ) → is_hex_digit b ≡ true → is_digit b ≡ false → is_lowercase b ≡ false → is_uppercase b ≡ true
+pub an_uppercase : (b : ℕ) → is_hex_digit b ≡ true → is_digit b ≡ false → is_lowercase b ≡ false → is_uppercase b ≡ true
 an_uppercase b e no_digit no_lowercase = rw (no_digit, no_lowercase) at e
 
 -- what a digit of each kind counts, and that it is below 16
