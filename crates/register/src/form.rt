@@ -6,6 +6,7 @@ ghost use Rattle.register.specs.Tree.{parent_fits, is_tree};
 ghost use Rattle.register.specs.Form.{record_size, record_of, record_bytes, record_fits};
 
 use crate::{LAST_KIND, Record};
+use sets::number::BigEndian;
 
 // Whether p may stand in the place for the parent of number q.
 pub fn parent_fits(q: usize, p: u8) -> bool
@@ -14,61 +15,58 @@ pub fn parent_fits(q: usize, p: u8) -> bool
     if q == 0 {
         return p == 0;
     }
-    (p as usize) < q
+    usize::from(p) < q
 }
 
 // Whether the bytes are the parents of roles 0, 1, ..
 pub fn is_tree(s: &[u8]) -> bool
     ensures { result ≡ is_tree s.now }
 {
-    let mut q: usize = 0;
-    while q < s.len() {
-        if !parent_fits(q, s[q]) {
+    for (q, p) in s.iter().enumerate() {
+        if !parent_fits(q, *p) {
             return false;
         }
-        q = q + 1;
     }
     true
 }
 
-pub fn record_of(s: &[u8]) -> Record
-    requires { record_size ≤ length s.now }
-    ensures { result ≡ record_of s.now }
-{
-    Record {
-        parent: sets::number::get1(s, 0),
-        author: sets::number::get2(s, 1),
-        origins: sets::number::get2(s, 3),
-        sensitivities: sets::number::get2(s, 5),
-        kind: sets::number::get1(s, 7),
-        labels: sets::number::get2(s, 8),
+impl Record {
+    // The record that ten bytes write.
+    pub fn from_bytes(s: &[u8]) -> Record
+        requires { record_size ≤ length s.now }
+        ensures { result ≡ record_of s.now }
+    {
+        Record {
+            parent: u8::get(s, 0),
+            author: u16::get(s, 1),
+            origins: u16::get(s, 3),
+            sensitivities: u16::get(s, 5),
+            kind: u8::get(s, 7),
+            labels: u16::get(s, 8),
+        }
     }
-}
 
-// Whether the record keeps its ranges where it comes after x others.
-pub fn record_fits(x: usize, r: Record) -> bool
-    ensures { (earlier : List Held) → length earlier ≡ x → result ≡ record_fits earlier r }
-{
-    if !parent_fits(x, r.parent) {
-        return false;
+    // Whether the record keeps its ranges where it comes after x others.
+    #[tactic(auto, unfolding(crate::specs::Form::record_fits))]
+    pub fn fits(self, x: usize) -> bool
+        ensures { (earlier : List Held) → length earlier ≡ x → result ≡ record_fits earlier self }
+    {
+        parent_fits(x, self.parent)
+            && 0 < self.origins
+            && 0 < self.sensitivities
+            && self.kind <= LAST_KIND
     }
-    if r.origins == 0 {
-        return false;
-    }
-    if r.sensitivities == 0 {
-        return false;
-    }
-    r.kind <= LAST_KIND
-}
 
-pub fn put_record(s: &mut [u8], at: usize, r: Record)
-    requires { at + record_size ≤ length s.old }
-    ensures { s.new ≡ sets s.old at (record_bytes r) }
-{
-    sets::number::put1(s, at, r.parent);
-    sets::number::put2(s, at + 1, r.author);
-    sets::number::put2(s, at + 3, r.origins);
-    sets::number::put2(s, at + 5, r.sensitivities);
-    sets::number::put1(s, at + 7, r.kind);
-    sets::number::put2(s, at + 8, r.labels);
+    // Writes the record's ten bytes from place `at` on.
+    pub fn put(self, s: &mut [u8], at: usize)
+        requires { at + record_size ≤ length s.old }
+        ensures { s.new ≡ sets s.old at (record_bytes self) }
+    {
+        self.parent.put(s, at);
+        self.author.put(s, at + 1);
+        self.origins.put(s, at + 3);
+        self.sensitivities.put(s, at + 5);
+        self.kind.put(s, at + 7);
+        self.labels.put(s, at + 8);
+    }
 }

@@ -2,7 +2,8 @@
 #![tactic(auto)]
 
 ghost use Rattle.std.specs.Prelude.{◌≡◌};
-ghost use Rattle.register.specs.Register.{no_record, empty_register};
+ghost use Rattle.register.specs.Register.{contents, empty_register};
+ghost use Rattle.register.specs.Records.{record_at};
 
 pub mod form;
 pub mod records;
@@ -22,7 +23,7 @@ pub const LAST_KIND: u8 = 7;
 
 // In C's layout, and in this order without padding: it is a part of the library's state (ledger_stored).
 #[repr(C)]
-#[derive(Clone, Copy)]
+#[derive(Clone, Copy, Debug, Default, PartialEq, Eq)]
 pub struct Record {
     pub author: u16,
     pub origins: u16,
@@ -43,31 +44,44 @@ pub struct Register {
     pub record_count: usize,
 }
 
-// What fills a place that holds no record.
-pub fn no_record() -> Record
-    ensures { result ≡ no_record }
-{
-    Record {
-        parent: 0,
-        author: 0,
-        origins: 0,
-        sensitivities: 0,
-        kind: 0,
-        labels: 0,
+impl Register {
+    // No roles and no records.
+    #[tactic(auto, unfolding(crate::specs::Register::empty_register))]
+    pub fn empty() -> Register
+        ensures { result ≡ empty_register }
+    {
+        let none = Record::default();
+        let records = [none; RECORDS];
+        let roles = [0u8; ROLES];
+        Register {
+            roles: roles,
+            role_count: 0,
+            records: records,
+            record_count: 0,
+        }
     }
-}
 
-// No roles and no records.
-pub fn empty_register() -> Register
-    ensures { result ≡ empty_register }
-{
-    let r = no_record();
-    let records = [r; RECORDS];
-    let roles = [0u8; ROLES];
-    Register {
-        roles: roles,
-        role_count: 0,
-        records: records,
-        record_count: 0,
+    // The parent of each role, by the role's number.
+    pub fn roles(&self) -> &[u8]
+        ensures { result.now ≡ (contents self.now).roles }
+    {
+        &self.roles[..self.role_count.min(ROLES)]
+    }
+
+    // The records, by number.
+    pub fn records(&self) -> &[Record]
+        ensures { result.now ≡ (contents self.now).records }
+    {
+        &self.records[..self.record_count.min(RECORDS)]
+    }
+
+    // The record of number x; all zeros where the register lacks it.
+    pub fn record_at(&self, x: usize) -> Record
+        ensures { result ≡ record_at (contents self.now).records x }
+    {
+        match self.records().get(x) {
+            Some(record) => *record,
+            None => Record::default(),
+        }
     }
 }

@@ -2,6 +2,5 @@
 #![tactic(auto)]
 
 pub mod bits;
-pub mod bounds;
 pub mod number;
 pub mod record_set;

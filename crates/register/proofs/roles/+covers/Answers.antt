@@ -4,9 +4,9 @@ use mathlib.Core.Path.{◌≡◌, sym, ◌∙◌}
 use mathlib.Core.Bool.{◌&&◌, or-false}
 use mathlib.Core.List.{List}
 use native.Mathlib.Omega.{arith}
+use borrow.Author.Rules.{rules}
 use borrow.Author.Tests.{eq-eqb, ne_eqb, lt-ltb, le-ltb}
-use lib.ListN.{length, take, length-take, get_or-eq_default}
-use lib.Seq.{get_or-take}
+use lib.ListN.{length, get_or, get_or-eq_default}
 use lib.Dec.{eqb, ltb}
 use Rattle.register.specs.Tree.{parent_of, above_by}
 use Rattle.register.specs.Roles.{covers}
@@ -33,29 +33,19 @@ pub returns-then-r-q : goal.returns-then-r-q
 unfolding covers
 returns-then-r-q t c = rw (eq-eqb _ _ c.if-r-q.true)
 
-pub returns-then-size-at : goal.returns-then-size-at
-returns-then-size-at t c =
-    sym (covers_past (take c.args.count c.args.parents.now) c.args.r c.args.q c.if-r-q.false (omega arith))
+pub returns-in_default : goal.returns-in_default
+returns-in_default t c =
+    let past : length c.args.parents.now ≤ c.args.q = search rules in
+    sym (covers_past c.args.parents.now c.args.r c.args.q c.if-r-q.false past)
 
 pub returns-then-p-q : goal.returns-then-p-q
 returns-then-p-q t c =
-    let h = simp length-take at c.size.ensures in
-    c.covers.ensures
-    ∙ sym
-    (step (take c.args.count c.args.parents.now) c.args.r c.args.q c.if-r-q.false
-    ∙ rw (
-      get_or-take c.args.count c.args.parents.now c.args.q 0 (omega arith),
-      ← c.wide-p.ensures.0,
-      lt-ltb _ _ c.if-p-q.true,
-    ))
+    let ps = c.args.parents.now in
+    let up : c.from-p.result ≡ get_or ps c.args.q 0 = search rules in
+    c.covers.ensures ∙ sym (step ps c.args.r c.args.q c.if-r-q.false ∙ rw (← up, lt-ltb _ _ c.if-p-q.true))
 
 pub returns-else-p-q : goal.returns-else-p-q
 returns-else-p-q t c =
-    let h = simp length-take at c.size.ensures in
-    sym
-    (step (take c.args.count c.args.parents.now) c.args.r c.args.q c.if-r-q.false
-    ∙ rw (
-      get_or-take c.args.count c.args.parents.now c.args.q 0 (omega arith),
-      ← c.wide-p.ensures.0,
-      le-ltb _ _ c.if-p-q.false,
-    ))
+    let ps = c.args.parents.now in
+    let up : c.from-p.result ≡ get_or ps c.args.q 0 = search rules in
+    sym (step ps c.args.r c.args.q c.if-r-q.false ∙ rw (← up, le-ltb _ _ c.if-p-q.false))

@@ -1,7 +1,0 @@
--- `number::get4`: four bytes are two and two.
-use native.Mathlib.Omega.{arith}
-use Rattle.sets.proofs.Numbers.{number_halves}
-use Rattle.sets.proofs.number.get4.Goals as goal
-
-pub returns : goal.returns
-returns c = omega (arith, number_halves c.args.at c.args.s.now c.requires)
