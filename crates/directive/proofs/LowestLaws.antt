@@ -1,13 +1,19 @@
 -- The lowest of a list with one directive more at its end, and the lowest of what a test keeps.
-use mathlib.Core.Path.{◌≡◌, refl}
+use mathlib.Core.Path.{◌≡◌, refl, sym}
 use mathlib.Core.Bool.{Bool, true, false}
 use mathlib.Core.Logic.{⊎_elim}
 use mathlib.Core.List.{List, [], ◌∷◌, ◌++◌}
 use lib.Dec.{ltb}
+use Rattle.std.specs.Prelude.{Some, None}
+use Rattle.std.specs.Option.{is_some}
 use Rattle.sets.specs.Quantifiers.{pick, some_in, keep}
-use Rattle.sets.proofs.Quantifiers.{either_way, both_ways}
+use Rattle.sets.proofs.Quantifiers.{either_way}
 use Rattle.directive.specs.declared.Directive.{Directive}
+use Rattle.directive.specs.declared.lowest.Best.{Best}
 use Rattle.directive.specs.Lowest.{lowest, lowest_number, best_of}
+
+abbrev best_in : Directive → Best
+best_in d = record { permit = d.permit; number = d.number }
 
 pub lowest_snoc :
     (x : Directive) (xs : List Directive) (d : Directive) →
@@ -16,23 +22,32 @@ unfolding lowest
 lowest_snoc x [] d = refl
 lowest_snoc x (e ∷ es) d = lowest_snoc (pick (ltb e.number x.number) e x) es d
 
--- a number that is not lower changes nothing
-pub best_kept :
-    (ds : List Directive) (d : Directive) → (best_of ds).found ≡ true → ltb d.number (best_of ds).number ≡ false →
-    best_of (ds ++ (d ∷ [])) ≡ best_of ds
-best_kept [] d e f = both_ways e refl
-best_kept (x ∷ xs) d e f = rw (lowest_snoc x xs d, f)
+-- the directive of lowest number of a list with d at its end, in the list's effect and number
+best_snoc :
+    (x : Directive) (xs : List Directive) (d : Directive) →
+    best_of ((x ∷ xs) ++ (d ∷ [])) ≡
+    Some (pick (ltb d.number (lowest x xs).number) (best_in d) (best_in (lowest x xs)))
+best_snoc x xs d =
+    rw (lowest_snoc x xs d)
+    (⊎_elim
+    (λ (e : ltb d.number (lowest x xs).number ≡ true). rw e)
+    (λ (e : ltb d.number (lowest x xs).number ≡ false). rw e)
+    (either_way (ltb d.number (lowest x xs).number)))
 
--- the first one, or one of lower number, is taken
-pub best_taken :
-    (ds : List Directive) (d : Directive) → ((best_of ds).found ≡ true → ltb d.number (best_of ds).number ≡ true) →
-    best_of (ds ++ (d ∷ [])) ≡ record { found = true; permit = d.permit; number = d.number }
+-- the first one is taken, and so is one of lower number; another changes nothing
+pub best_first : (ds : List Directive) (d : Directive) → best_of ds ≡ None → best_of (ds ++ (d ∷ [])) ≡ Some (best_in d)
 unfolding lowest
-best_taken [] d f = refl
-best_taken (x ∷ xs) d f = rw (lowest_snoc x xs d, f refl)
+best_first [] d e = refl
+best_first (x ∷ xs) d e = cc
+
+pub best_next :
+    (ds : List Directive) (d : Directive) (b : Best) → best_of ds ≡ Some b →
+    best_of (ds ++ (d ∷ [])) ≡ Some (pick (ltb d.number b.number) (best_in d) b)
+best_next [] d b e = cc
+best_next (x ∷ xs) d b e = let g : best_in (lowest x xs) ≡ b = cc in rw (sym g) (best_snoc x xs d)
 
 -- a test keeps a directive where some directive passes it
-pub best_found : (p : Directive → Bool) (ds : List Directive) → (best_of (keep p ds)).found ≡ some_in p ds
+pub best_found : (p : Directive → Bool) (ds : List Directive) → is_some (best_of (keep p ds)) ≡ some_in p ds
 unfolding some_in keep
 best_found p [] = refl
 best_found p (d ∷ ds) =
@@ -41,6 +56,6 @@ best_found p (d ∷ ds) =
     (λ (e : p d ≡ false). rw e (best_found p ds))
     (either_way (p d))
 
-pub best_number : (ds : List Directive) → (best_of ds).found ≡ true → lowest_number ds ≡ (best_of ds).number ∷ []
-best_number [] e = both_ways e refl
-best_number (d ∷ ds) e = refl
+pub best_number : (ds : List Directive) (b : Best) → best_of ds ≡ Some b → lowest_number ds ≡ b.number ∷ []
+best_number [] b e = cc
+best_number (d ∷ ds) b e = let g : best_in (lowest d ds) ≡ b = cc in rw (sym g) refl

@@ -6,6 +6,7 @@ use mathlib.Core.List.{List, [], ◌∷◌, ◌++◌}
 use native.Mathlib.Omega.{arith}
 use lib.ListN.{length, take, get_or}
 use lib.Seq.{take_all}
+use Rattle.std.specs.Prelude.{Option}
 use Rattle.sets.specs.Quantifiers.{pick, keep}
 use Rattle.sets.proofs.Keep.{keep_next}
 use Rattle.directive.specs.declared.Directive.{Directive}
@@ -14,11 +15,11 @@ use Rattle.directive.specs.Nothing.{no_directive}
 use Rattle.directive.specs.Lowest.{best_of}
 
 -- what is known before turn i
-pub record Met (p : Directive → Bool) (ds : List Directive) (best : Best) (i : ℕ) : Type 0 where
+pub record Met (p : Directive → Bool) (ds : List Directive) (best : Option Best) (i : ℕ) : Type 0 where
   pub turns : i ≤ length ds
   pub lowest : best ≡ best_of (keep p (take i ds))
 
-module _ {p : Directive → Bool} {ds : List Directive} {best : Best} where
+module _ {p : Directive → Bool} {ds : List Directive} {best : Option Best} where
   pub met_none : best ≡ best_of [] → Met p ds best 0
   unfolding keep
   met_none e = record { turns = omega arith; lowest = e }
@@ -26,7 +27,7 @@ module _ {p : Directive → Bool} {ds : List Directive} {best : Best} where
   module _ {i : ℕ} (met : Met p ds best i) where
     -- d, which is directive i, counts where it passes
     pub met_next :
-        {d : Directive} {b : Bool} {r : Best} → i < length ds → d ≡ get_or ds i no_directive → b ≡ p d →
+        {d : Directive} {b : Bool} {r : Option Best} → i < length ds → d ≡ get_or ds i no_directive → b ≡ p d →
         ((es : List Directive) → best ≡ best_of es → r ≡ best_of (pick b (es ++ (d ∷ [])) es)) → Met p ds r (i + 1)
     met_next h here e lower =
         record {

@@ -16,6 +16,7 @@ use Rattle.sets.proofs.Ranges.{some_narrow}
 use Rattle.sets.proofs.WordLaws.{contains_past, contains_words}
 use Rattle.sets.proofs.FillLaws.{HasBelow}
 use Rattle.register.specs.declared.Record.{Record}
+use Rattle.register.specs.declared.records.Reach.{Reach}
 use Rattle.register.specs.Tree.{parent_of}
 use Rattle.register.specs.Records.{record_at, parents, descendant, reach_takes, reaches}
 use Rattle.register.proofs.TreeLaws.{above_step}
@@ -34,7 +35,7 @@ module _ (rs : List Record) (x p : ℕ) (e : parent_of (parents rs) x ≡ p) whe
       ∙ sym (above_step (parents rs) r x ∙ rw e)
 
   pub reached :
-      (reach r : ℕ) → reach_takes reach (eqb r x) (ltb p x && eqb r p) (descendant rs r x) ≡ reaches rs reach r x
+      (reach : Reach) (r : ℕ) → reach_takes reach (eqb r x) (ltb p x && eqb r p) (descendant rs r x) ≡ reaches rs reach r x
   unfolding reaches
   reached reach r = rw e
 

@@ -1,5 +1,5 @@
 -- The directive of lowest number in a list.
-use Rattle.std.specs.Prelude.{ℕ, true, false, List, [], ◌∷◌, nat_lt}
+use Rattle.std.specs.Prelude.{ℕ, List, [], ◌∷◌, Option, Some, None, nat_lt}
 use Rattle.sets.specs.Quantifiers.{pick}
 use Rattle.directive.specs.declared.Directive.{Directive}
 use Rattle.directive.specs.declared.lowest.Best.{Best}
@@ -14,7 +14,7 @@ abbrev pub lowest_number : List Directive → List ℕ
 lowest_number [] = []
 lowest_number (d ∷ ds) = (lowest d ds).number ∷ []
 
--- whether a list has a directive, with the effect and the number of the lowest
-abbrev pub best_of : List Directive → Best
-best_of [] = record { found = false; permit = false; number = 0 }
-best_of (d ∷ ds) = record { found = true; permit = (lowest d ds).permit; number = (lowest d ds).number }
+-- the effect and the number of the lowest directive of a list, if it has one
+abbrev pub best_of : List Directive → Option Best
+best_of [] = None
+best_of (d ∷ ds) = Some (record { permit = (lowest d ds).permit; number = (lowest d ds).number })

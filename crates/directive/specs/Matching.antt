@@ -1,5 +1,5 @@
 -- When a directive matches a request.
-use Rattle.std.specs.Prelude.{ℕ, Bool, ◌&&◌, List, nat_eq, nat_le, nat_lt}
+use Rattle.std.specs.Prelude.{ℕ, Bool, true, false, ◌&&◌, List, nat_eq, nat_le, nat_lt}
 use Rattle.sets.specs.Bits.{bit}
 use Rattle.register.specs.Register.{Contents}
 use Rattle.register.specs.Roles.{covers}
@@ -10,6 +10,15 @@ use Rattle.directive.specs.declared.Request.{Request}
 use Rattle.directive.specs.declared.Query.{Query}
 use Rattle.directive.specs.declared.Requester.{Requester}
 use Rattle.directive.specs.Selection.{selects}
+
+-- the role or the person of that number
+abbrev pub subject_named : Bool → ℕ → Subject
+subject_named true n = Role n
+subject_named false n = Person n
+
+abbrev pub is_role : Subject → Bool
+is_role (Person n) = false
+is_role (Role n) = true
 
 -- the person or the role that a subject names
 abbrev pub number_of : Subject → ℕ

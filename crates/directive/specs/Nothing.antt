@@ -1,5 +1,6 @@
 -- What stands where there is no directive.
 use Rattle.std.specs.Prelude.{false}
+use Rattle.register.specs.declared.records.Reach.TheVariants.{Itself}
 use Rattle.directive.specs.declared.Subject.TheVariants.{Person}
 use Rattle.directive.specs.declared.Directive.{Directive}
 
@@ -11,7 +12,7 @@ no_directive =
       subject = Person 0;
       subject_origins = 0;
       «record» = 0;
-      reach = 0;
+      reach = Itself;
       origins = 0;
       sensitivities = 0;
       kinds = 0;

@@ -2,8 +2,9 @@
 #![tactic(auto)]
 
 ghost use Rattle.std.specs.Prelude.{◌≡◌};
-ghost use Rattle.directive.specs.Matching.{query_on};
-ghost use Rattle.directive.specs.Nothing.{no_directive};
+ghost use Rattle.directive.specs.Matching.{query_on, is_role, number_of, subject_named};
+
+use register::records::Reach;
 
 pub mod lowest;
 pub mod matching;
@@ -16,6 +17,34 @@ pub enum Subject {
     Role(u16),
 }
 
+impl Subject {
+    // The role or the person of that number.
+    pub fn named(is_role: bool, number: u16) -> Subject
+        ensures { result ≡ subject_named is_role number }
+    {
+        if is_role {
+            Subject::Role(number)
+        } else {
+            Subject::Person(number)
+        }
+    }
+
+    pub fn is_role(self) -> bool
+        ensures { result ≡ is_role self }
+    {
+        matches!(self, Subject::Role(_))
+    }
+
+    // The number of the person or the role.
+    pub fn number(self) -> u16
+        ensures { result ≡ number_of self }
+    {
+        match self {
+            Subject::Person(n) | Subject::Role(n) => n,
+        }
+    }
+}
+
 #[derive(Clone, Copy)]
 pub struct Directive {
     pub number: u16,
@@ -24,7 +53,7 @@ pub struct Directive {
     pub subject: Subject,
     pub subject_origins: u16,
     pub record: u8,
-    pub reach: u8,
+    pub reach: Reach,
     // the filtration sets; document 01: po, ps, pt
     pub origins: u16,
     pub sensitivities: u16,
@@ -63,36 +92,41 @@ pub struct Requester {
     pub purpose: u8,
 }
 
-// The requester's query for record x.
-pub fn query_on(w: Requester, x: u8) -> Query
-    ensures { result ≡ query_on w x }
-{
-    Query {
-        person: w.person,
-        role: w.role,
-        origin: w.origin,
-        record: x,
-        purpose: w.purpose,
+impl Requester {
+    // The requester's query for record x.
+    pub fn query_on(self, x: u8) -> Query
+        ensures { result ≡ query_on self x }
+    {
+        Query {
+            person: self.person,
+            role: self.role,
+            origin: self.origin,
+            record: x,
+            purpose: self.purpose,
+        }
     }
 }
 
 // What fills a place that holds no directive.
-pub fn no_directive() -> Directive
-    ensures { result ≡ no_directive }
-{
-    let s = Subject::Person(0);
-    Directive {
-        number: 0,
-        permit: false,
-        subject: s,
-        subject_origins: 0,
-        record: 0,
-        reach: 0,
-        origins: 0,
-        sensitivities: 0,
-        kinds: 0,
-        purposes: 0,
-        from: 0,
-        until: 0,
+impl Default for Directive {
+    ghost use Rattle.directive.specs.Nothing.{no_directive};
+
+    ghost is_default = { λ d. d ≡ no_directive };
+
+    fn default() -> Directive {
+        Directive {
+            number: 0,
+            permit: false,
+            subject: Subject::Person(0),
+            subject_origins: 0,
+            record: 0,
+            reach: Reach::Itself,
+            origins: 0,
+            sensitivities: 0,
+            kinds: 0,
+            purposes: 0,
+            from: 0,
+            until: 0,
+        }
     }
 }

@@ -1,44 +1,40 @@
 // The directive of lowest number, of those met one after the other.
-ghost use Rattle.std.specs.Prelude.{◌≡◌, List, ◌∷◌, [], ◌++◌};
+ghost use Rattle.std.specs.Prelude.{◌≡◌, List, ◌∷◌, [], ◌++◌, Some};
 ghost use Rattle.sets.specs.Quantifiers.{pick};
 ghost use Rattle.directive.specs.declared.Directive.{Directive as Met};
 ghost use Rattle.directive.specs.Lowest.{best_of};
 
 use crate::Directive;
 
-// Whether there was a directive, with the effect and the number of the lowest.
+// The effect and the number of a directive.
 #[derive(Clone, Copy)]
 pub struct Best {
-    pub found: bool,
     pub permit: bool,
     pub number: u16,
 }
 
-pub fn nothing() -> Best
-    ensures { result ≡ best_of [] }
+// The lowest of those met so far and of d, which is met next.
+#[tactic(auto, using(crate::proofs::LowestLaws::best_first))]
+fn lower(best: Option<Best>, d: &Directive) -> Best
+    ensures { (ds : List Met) → best ≡ best_of ds → Some result ≡ best_of (ds ++ (d.now ∷ [])) }
 {
-    Best {
-        found: false,
-        permit: false,
-        number: 0,
+    let next = Best {
+        permit: d.permit,
+        number: d.number,
+    };
+    match best {
+        None => next,
+        Some(lowest) => if d.number < lowest.number {
+            next
+        } else {
+            lowest
+        },
     }
 }
 
-// With one directive more, where b holds.
-pub fn lower_where(best: Best, d: Directive, b: bool) -> Best
-    ensures { (ds : List Met) → best ≡ best_of ds → result ≡ best_of (pick b (ds ++ (d ∷ [])) ds) }
+// The same, where b holds; else without d.
+pub fn lower_where(best: Option<Best>, d: &Directive, b: bool) -> Option<Best>
+    ensures { (ds : List Met) → best ≡ best_of ds → result ≡ best_of (pick b (ds ++ (d.now ∷ [])) ds) }
 {
-    if !b {
-        return best;
-    }
-    if best.found {
-        if best.number <= d.number {
-            return best;
-        }
-    }
-    Best {
-        found: true,
-        permit: d.permit,
-        number: d.number,
-    }
+    if b { Some(lower(best, d)) } else { best }
 }

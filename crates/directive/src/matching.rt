@@ -1,53 +1,53 @@
 // When a directive matches a request.
-ghost use Rattle.std.specs.Prelude.{◌≡◌, List, take};
+ghost use Rattle.std.specs.Prelude.{◌≡◌, List};
 ghost use Rattle.register.specs.declared.Record.{Record as Held};
 ghost use Rattle.register.specs.Register.{holding};
 ghost use Rattle.directive.specs.Selection.{selects};
-ghost use Rattle.directive.specs.Matching.{subject_covers, matches};
+ghost use Rattle.directive.specs.Matching.{subject_covers, matches, request_at};
 
-use crate::{Directive, Request, Subject};
+use crate::{Directive, Query, Request, Subject};
+use register::roles;
+use sets::bits;
 
-// Whether the subject covers the person in the role, among the first `count` roles by their parents.
-pub fn subject_covers(
-    s: Subject,
-    parents: &[u8; register::ROLES],
-    count: usize,
-    person: u16,
-    role: u16,
-) -> bool
-    ensures { result ≡ subject_covers (take count parents.now) s person role }
-{
-    match s {
-        Subject::Person(n) => n == person,
-        Subject::Role(n) => register::roles::covers(parents, count, n, role),
+impl Subject {
+    // Whether it covers the person in the role; `parents` has the parents of the roles.
+    pub fn covers(self, parents: &[u8], person: u16, role: u16) -> bool
+        ensures { result ≡ subject_covers parents.now self person role }
+    {
+        match self {
+            Subject::Person(n) => n == person,
+            Subject::Role(n) => roles::covers(parents, n, role),
+        }
     }
 }
 
-// Whether the directive matches the request; `selected` tells whether it selects the record asked for.
-pub fn matches(
-    parents: &[u8; register::ROLES],
-    count: usize,
-    d: Directive,
-    q: Request,
-    selected: bool,
-) -> bool
-    ensures { (rs : List Held) → selected ≡ selects rs d q.«record» → result ≡ matches (holding (take count parents.now) rs) d q }
-{
-    if !selected {
-        return false;
+impl Directive {
+    // Whether it matches the request; `selected` tells whether it selects the record asked for.
+    #[tactic(auto, unfolding(crate::specs::Matching::matches, crate::specs::Matching::applies_to))]
+    pub fn matches(&self, parents: &[u8], q: Request, selected: bool) -> bool
+        ensures { (rs : List Held) → selected ≡ selects rs self.now q.«record» → result ≡ matches (holding parents.now rs) self.now q }
+    {
+        selected
+            && self.from <= q.minute
+            && q.minute < self.until
+            && bits::has(self.subject_origins, q.origin)
+            && bits::has(self.purposes, q.purpose)
+            && self.subject.covers(parents, q.person, q.role)
     }
-    if q.minute < d.from {
-        return false;
+}
+
+impl Query {
+    // The request that the query is at the minute.
+    pub fn at(self, minute: u32) -> Request
+        ensures { result ≡ request_at self minute }
+    {
+        Request {
+            person: self.person,
+            role: self.role,
+            origin: self.origin,
+            record: self.record,
+            purpose: self.purpose,
+            minute,
+        }
     }
-    if d.until <= q.minute {
-        return false;
-    }
-    if !sets::bits::has(d.subject_origins, q.origin) {
-        return false;
-    }
-    if !sets::bits::has(d.purposes, q.purpose) {
-        return false;
-    }
-    let s = d.subject;
-    subject_covers(s, parents, count, q.person, q.role)
 }

@@ -1,6 +1,8 @@
 -- Records: the record of a number, children and descendants, and the reaches.
 use Rattle.std.specs.Prelude.{ℕ, zero, suc, Bool, true, false, ◌&&◌, ◌||◌, List, map, length, slice_index_or, nat_eq, nat_lt}
 use Rattle.register.specs.declared.Record.{Record}
+use Rattle.register.specs.declared.records.Reach.{Reach}
+use Rattle.register.specs.declared.records.Reach.TheVariants.{Itself, Children, Descendants, Folder}
 use Rattle.register.specs.Register.{no_record}
 use Rattle.register.specs.Tree.{is_parent, is_above}
 
@@ -22,31 +24,44 @@ child rs r x = is_parent (parents rs) r x
 abbrev pub descendant : List Record → ℕ → ℕ → Bool
 descendant rs r x = is_above (parents rs) r x
 
+-- "Reach 0 is the record itself, 1 its children, 2 all its descendants without itself"; document 02, #102: "Reach 3 is the record
+-- with all its descendants."
+abbrev pub reach_number : Reach → ℕ
+reach_number Itself = 0
+reach_number Children = 1
+reach_number Descendants = 2
+reach_number Folder = 3
+
+-- There is no reach past the last.
+abbrev pub last_reach : ℕ
+last_reach = 3
+
+-- the reach of a number; past the last it is free
+abbrev pub reach_of : ℕ → Reach
+reach_of zero = Itself
+reach_of (suc zero) = Children
+reach_of (suc (suc zero)) = Descendants
+reach_of (suc (suc (suc n))) = Folder
+
 -- Which of a record itself, its children and all its descendants a reach takes.
-pub record Reach : Type 0 where
+pub record Taken : Type 0 where
   pub itself : Bool
   pub children : Bool
   pub descendants : Bool
 
--- "Reach 0 is the record itself, 1 its children, 2 all its descendants without itself"; document 02, #102: "Reach 3 is the record
--- with all its descendants." There is no reach past the last.
-abbrev pub reach_of : ℕ → Reach
-reach_of zero = record { itself = true; children = false; descendants = false }
-reach_of (suc zero) = record { itself = false; children = true; descendants = false }
-reach_of (suc (suc zero)) = record { itself = false; children = false; descendants = true }
-reach_of (suc (suc (suc zero))) = record { itself = true; children = false; descendants = true }
-reach_of (suc (suc (suc (suc n)))) = record { itself = false; children = false; descendants = false }
-
-abbrev pub last_reach : ℕ
-last_reach = 3
+abbrev pub taken_by : Reach → Taken
+taken_by Itself = record { itself = true; children = false; descendants = false }
+taken_by Children = record { itself = false; children = true; descendants = false }
+taken_by Descendants = record { itself = false; children = false; descendants = true }
+taken_by Folder = record { itself = true; children = false; descendants = true }
 
 -- whether a reach takes a record, given whether that is the record itself, a child, a descendant
-abbrev pub reach_takes : ℕ → Bool → Bool → Bool → Bool
+abbrev pub reach_takes : Reach → Bool → Bool → Bool → Bool
 reach_takes reach itself is_child is_descendant =
-    (reach_of reach).itself && itself
-    || (reach_of reach).children && is_child
-    || (reach_of reach).descendants && is_descendant
+    (taken_by reach).itself && itself
+    || (taken_by reach).children && is_child
+    || (taken_by reach).descendants && is_descendant
 
 -- record x is within this reach of record r
-unfoldable pub reaches : List Record → ℕ → ℕ → ℕ → Bool
+unfoldable pub reaches : List Record → Reach → ℕ → ℕ → Bool
 reaches rs reach r x = reach_takes reach (nat_eq r x) (child rs r x) (descendant rs r x)

@@ -1,8 +1,8 @@
 // The register: roles and records, each with a parent of lower number.
 #![tactic(auto)]
 
-ghost use Rattle.std.specs.Prelude.{◌≡◌};
-ghost use Rattle.register.specs.Register.{contents, empty_register};
+ghost use Rattle.std.specs.Prelude.{◌≡◌, ◌≤◌, length};
+ghost use Rattle.register.specs.Register.{contents, empty_register, role_places, record_places};
 ghost use Rattle.register.specs.Records.{record_at};
 
 pub mod form;
@@ -23,7 +23,7 @@ pub const LAST_KIND: u8 = 7;
 
 // In C's layout, and in this order without padding: it is a part of the library's state (ledger_stored).
 #[repr(C)]
-#[derive(Clone, Copy, Debug, Default, PartialEq, Eq)]
+#[derive(Clone, Copy, Default)]
 pub struct Record {
     pub author: u16,
     pub origins: u16,
@@ -63,14 +63,16 @@ impl Register {
 
     // The parent of each role, by the role's number.
     pub fn roles(&self) -> &[u8]
-        ensures { result.now ≡ (contents self.now).roles }
+        ensures value { result.now ≡ (contents self.now).roles }
+        ensures few { length result.now ≤ role_places }
     {
         &self.roles[..self.role_count.min(ROLES)]
     }
 
     // The records, by number.
     pub fn records(&self) -> &[Record]
-        ensures { result.now ≡ (contents self.now).records }
+        ensures value { result.now ≡ (contents self.now).records }
+        ensures few { length result.now ≤ record_places }
     {
         &self.records[..self.record_count.min(RECORDS)]
     }

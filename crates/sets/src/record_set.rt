@@ -3,7 +3,7 @@ ghost use Rattle.std.specs.Prelude.{◌≡◌, false, ◌&&◌, ◌||◌, ℕ, �
 ghost use Rattle.sets.specs.Quantifiers.{some_of};
 ghost use Rattle.sets.specs.RecordSets.{contains, set_bits};
 
-#[derive(Clone, Copy, Debug, PartialEq, Eq)]
+#[derive(Clone, Copy)]
 pub struct RecordSet {
     pub low: u64,
     pub high: u64,
@@ -35,13 +35,11 @@ impl RecordSet {
         self
     }
 
-    // Puts x into the set where b holds.
-    pub fn insert_where(&mut self, x: usize, b: bool)
-        ensures { (k : ℕ) → k < 128 → contains self.new k ≡ b && nat_eq x k || contains self.old k }
+    // The set with x in it where b holds.
+    pub fn with_where(self, x: usize, b: bool) -> RecordSet
+        ensures { (k : ℕ) → k < 128 → contains result k ≡ b && nat_eq x k || contains self k }
     {
-        if b {
-            *self = self.with(x);
-        }
+        if b { self.with(x) } else { self }
     }
 
     pub fn contains(self, x: usize) -> bool
