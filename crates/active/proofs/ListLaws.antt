@@ -1,15 +1,15 @@
 -- Laws of an active list: its entries one by one, and what a change does to its directives and to its invariant.
 use Prim.Native.Nat.{ℕ, ◌+◌, ◌-◌, ◌<◌, ◌≤◌}
 use mathlib.Core.Path.{◌≡◌, refl, sym, ap, ap₂, ◌∙◌}
-use mathlib.Core.Bool.{Bool, not}
+use mathlib.Core.Bool.{Bool}
 use mathlib.Core.List.{List, [], ◌∷◌, ◌++◌, map, map-append}
 use native.Mathlib.Omega.{arith}
-use lib.ListN.{length, take, get_or, length-take, length-map, length-append, get_or-map}
-use lib.Seq.{get_or-take, get_or-append_seam}
+use lib.ListN.{length, get_or, length-map, length-append, get_or-map}
+use lib.Seq.{get_or-append_seam}
 use Rattle.sets.specs.Quantifiers.{some_in, keep}
 use Rattle.sets.specs.RecordSets.{contains}
 use Rattle.sets.proofs.Keep.{keep_map}
-use Rattle.sets.proofs.Lists.{take_held, map_at, some_map}
+use Rattle.sets.proofs.Lists.{map_at, some_map}
 use Rattle.register.specs.declared.Record.{Record}
 use Rattle.directive.specs.declared.Directive.{Directive}
 use Rattle.directive.specs.Nothing.{no_directive}
@@ -18,44 +18,29 @@ use Rattle.directive.specs.Selection.{selects}
 use Rattle.directive.proofs.SelectLaws.{contains_selected}
 use Rattle.active.specs.declared.Active.{Active}
 use Rattle.active.specs.declared.ActiveList.{ActiveList}
-use Rattle.active.specs.declared.changes.Drop.{Drop}
 use Rattle.active.specs.Active.{entries_of, directives_of, active_in, ActiveInvariant, no_active, empty_list}
-use Rattle.active.specs.Changes.{Pushed, drops, Without}
+use Rattle.active.specs.Changes.{Pushed, Keeps}
 
--- the first n entries, n being the size of the list
-module _ (l : ActiveList) {n : ℕ} (sized : n ≡ length (directives_of l)) where
-  pub size_fits : length l.entries ≡ active_places → n ≤ active_places
-  size_fits long = rw (sized, length-map, length-take) (omega arith)
+-- one of the directives passes where the directive of an entry does
+pub some_entries :
+    (p : Directive → Bool) (l : ActiveList) → some_in (λ a. p a.directive) (entries_of l) ≡ some_in p (directives_of l)
+some_entries p l = sym (some_map (λ a. a.directive) p (entries_of l))
 
-  pub entries_counted : take n l.entries ≡ entries_of l
-  entries_counted = rw (sized, length-map) (take_held l.count l.entries)
+-- entry i of those that count
+module _ (l : ActiveList) (i : ℕ) where
+  pub directive_at : (get_or (entries_of l) i no_active).directive ≡ get_or (directives_of l) i no_directive
+  directive_at = sym (get_or-map (λ a. a.directive) (entries_of l) i no_active)
 
-  pub some_counted : (p : Directive → Bool) → some_in (λ a. p a.directive) (take n l.entries) ≡ some_in p (directives_of l)
-  some_counted p = rw entries_counted (sym (some_map (λ a. a.directive) p (entries_of l)))
+  module _ (h : i < length (entries_of l)) {rs : List Record} (held : ActiveInvariant rs l) where
+    entry_at : get_or (entries_of l) i no_active ≡ active_in rs (get_or (directives_of l) i no_directive)
+    entry_at =
+        ap (λ (es : List Active). get_or es i no_active) held.selections
+        ∙ map_at (active_in rs) (directives_of l) i no_directive no_active (rw length-map h)
 
--- entry i
-module _ (l : ActiveList) (i : ℕ) (h : i < length (directives_of l)) where
-  in_count : i < l.count
-  in_count = omega (arith, simp (length-map, length-take) at h)
-
-  pub directive_at : (get_or l.entries i no_active).directive ≡ get_or (directives_of l) i no_directive
-  directive_at =
-      ap (λ (a : Active). a.directive) (sym (get_or-take l.count l.entries i no_active in_count))
-      ∙ sym (get_or-map (λ a. a.directive) (entries_of l) i no_active)
-
-  pub entry_at :
-      {rs : List Record} → ActiveInvariant rs l →
-      get_or l.entries i no_active ≡ active_in rs (get_or (directives_of l) i no_directive)
-  entry_at {rs} held =
-      sym (get_or-take l.count l.entries i no_active in_count)
-      ∙ ap (λ (es : List Active). get_or es i no_active) held.selections
-      ∙ map_at (active_in rs) (directives_of l) i no_directive no_active h
-
-  -- its set is what its directive selects
-  pub selected_at :
-      {rs : List Record} → ActiveInvariant rs l →
-      get_or l.entries i no_active ≡ active_in rs (get_or l.entries i no_active).directive
-  selected_at held = rw directive_at (entry_at held)
+    -- its set is what its directive selects
+    pub selected_at :
+        get_or (entries_of l) i no_active ≡ active_in rs (get_or (entries_of l) i no_active).directive
+    selected_at = rw directive_at entry_at
 
 -- the set of an entry tells of every number whether its directive selects it
 pub selects_own :
@@ -64,16 +49,17 @@ pub selects_own :
 selects_own rs {a} own few x =
     ap (λ (b : Active). contains b.selected x) own ∙ contains_selected rs a.directive x few
 
--- the last entry
+-- the last entry is that of the last directive
 pub last_at :
-    (l : ActiveList) (ds : List Directive) {rs : List Record} {d : Directive} {n : ℕ} →
-    n ≡ length (directives_of l) → ActiveInvariant rs l → directives_of l ≡ ds ++ (d ∷ []) →
-    (0 < n) × (get_or l.entries (n - 1) no_active ≡ active_in rs d)
-last_at l ds {rs} {d} {n} sized held is =
-    let long : n ≡ length ds + 1 = sized ∙ ap length is ∙ length-append ds (d ∷ []) in
-    let at : n - 1 ≡ length ds = omega arith in (
+    (l : ActiveList) (ds : List Directive) {rs : List Record} {d : Directive} →
+    ActiveInvariant rs l → directives_of l ≡ ds ++ (d ∷ []) →
+    (0 < length (entries_of l)) × (get_or (entries_of l) (length (entries_of l) - 1) no_active ≡ active_in rs d)
+last_at l ds {rs} {d} held is =
+    let long : length (entries_of l) ≡ length ds + 1 =
+    sym (length-map (entries_of l) (λ a. a.directive)) ∙ ap length is ∙ length-append ds (d ∷ []) in
+    let at : length (entries_of l) - 1 ≡ length ds = omega arith in (
       omega arith,
-      entry_at l (n - 1) (rw (← sized) (omega arith)) held
+      entry_at l (length (entries_of l) - 1) (omega arith) held
           ∙ ap (active_in rs) (rw (is, at) (get_or-append_seam ds d [] no_directive)),
     )
 
@@ -95,21 +81,20 @@ module _ {l r : ActiveList} {a : Active} (pushed : Pushed l a r) where
             ∙ ap (map (active_in rs)) (sym directives_pushed);
       }
 
--- without those that are dropped
-module _ {t : Drop} {l r : ActiveList} (rest : Without t l r) where
-  pub directives_without : directives_of r ≡ keep (λ d. not (drops t d)) (directives_of l)
-  directives_without =
-      rw rest.entries (sym (keep_map (λ a. a.directive) (λ d. not (drops t d)) (entries_of l)))
+-- those that pass a test
+module _ {p : Directive → Bool} {l r : ActiveList} (kept : Keeps p l r) where
+  pub directives_kept : directives_of r ≡ keep p (directives_of l)
+  directives_kept = rw kept.entries (sym (keep_map (λ a. a.directive) p (entries_of l)))
 
-  pub invariant_without : {rs : List Record} → ActiveInvariant rs l → ActiveInvariant rs r
-  invariant_without {rs} held =
+  pub invariant_kept : {rs : List Record} → ActiveInvariant rs l → ActiveInvariant rs r
+  invariant_kept {rs} held =
       record {
-        few = rest.few;
+        few = kept.few;
         selections =
-            rest.entries
-            ∙ ap (keep (λ a. not (drops t a.directive))) held.selections
-            ∙ keep_map (active_in rs) (λ a. not (drops t a.directive)) (directives_of l)
-            ∙ ap (map (active_in rs)) (sym directives_without);
+            kept.entries
+            ∙ ap (keep (λ a. p a.directive)) held.selections
+            ∙ keep_map (active_in rs) (λ a. p a.directive) (directives_of l)
+            ∙ ap (map (active_in rs)) (sym directives_kept);
       }
 
 pub empty_invariant : (rs : List Record) → ActiveInvariant rs empty_list

@@ -1,61 +1,29 @@
 // What changes an active list.
-ghost use Rattle.std.specs.Prelude.{◌≡◌, not, ◌+◌, ◌<◌};
-ghost use Rattle.sets.specs.Quantifiers.{one_if};
+ghost use Rattle.std.specs.Prelude.{◌≡◌, ◌<◌, Bool};
+ghost use Rattle.directive.specs.declared.Directive.{Directive as Given};
 ghost use Rattle.directive.specs.Places.{active_places};
-ghost use Rattle.active.specs.Changes.{Pushed, drops, Without};
+ghost use Rattle.active.specs.Changes.{Pushed, Keeps};
 
 use crate::{Active, ActiveList};
 use directive::Directive;
+use sets::compact;
 
-// Which directives are dropped: that of a number, or those that have ended at a minute.
-#[derive(Clone, Copy)]
-pub enum Drop {
-    Number(u16),
-    Ended(u32),
-}
-
-fn drops(t: Drop, d: Directive) -> bool
-    ensures { result ≡ drops t d }
-{
-    match t {
-        Drop::Number(n) => d.number == n,
-        Drop::Ended(m) => d.until <= m,
+impl ActiveList {
+    // Puts one entry more last.
+    pub fn push(&mut self, a: Active)
+        requires { self.old.count < active_places }
+        ensures { Pushed self.old a self.new }
+    {
+        self.entries[self.count] = a;
+        self.count += 1;
     }
-}
 
-// The list with one entry more, last.
-pub fn push(l: ActiveList, a: Active) -> ActiveList
-    requires { l.count < active_places }
-    ensures { Pushed l a result }
-{
-    let at = l.count;
-    let mut more = l;
-    more.entries[at] = a;
-    more.count = at + 1;
-    more
-}
-
-// One place on, unless what stands there is dropped.
-fn step(at: usize, dropped: bool) -> usize
-    requires { at < active_places }
-    ensures { result ≡ at + one_if (not dropped) }
-{
-    if dropped { at } else { at + 1 }
-}
-
-// The list without the directives that t drops, the rest in their order.
-pub fn without(l: ActiveList, t: Drop) -> ActiveList
-    ensures { Without t l result }
-{
-    let n = crate::size(l);
-    let mut kept = l;
-    let mut at: usize = 0;
-    for i in 0..n {
-        let a = kept.entries[i];
-        kept.entries[at] = a;
-        let d = a.directive;
-        at = step(at, drops(t, d));
+    // Keeps the directives that pass the test, in their order.
+    pub fn retain<F: Fn(Directive) -> bool>(&mut self, test: F)
+        requires { F.IsAlwaysCallable test }
+        ensures { (p : Given → Bool) → ((d : Given) (b : Bool) → F.post test d b → b ≡ p d) → Keeps p self.old self.new }
+    {
+        let n = self.len();
+        self.count = compact::retain(&mut self.entries[..n], |a: Active| test(a.directive));
     }
-    kept.count = at;
-    kept
 }

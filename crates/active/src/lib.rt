@@ -1,11 +1,14 @@
 // The active directives of a ledger, each with the set of the records that it selects, which is computed once.
 #![tactic(auto)]
 
-ghost use Rattle.std.specs.Prelude.{◌≡◌, length};
-ghost use Rattle.register.specs.Register.{contents};
-ghost use Rattle.active.specs.Active.{no_active, active_in, empty_list, directives_of};
+ghost use Rattle.std.specs.Prelude.{◌≡◌, ◌≤◌, List, [], ◌∷◌, ◌++◌, length};
+ghost use Rattle.register.specs.declared.Record.{Record as Held};
+ghost use Rattle.register.specs.Register.{record_places, contents, holding};
+ghost use Rattle.directive.specs.Places.{active_places};
+ghost use Rattle.directive.specs.Matching.{matches};
+ghost use Rattle.active.specs.Active.{active_in, empty_list, entries_of, directives_of};
 
-use directive::Directive;
+use directive::{Directive, Request};
 use register::Register;
 use sets::record_set::RecordSet;
 
@@ -21,6 +24,26 @@ pub struct Active {
     pub selected: RecordSet,
 }
 
+impl Active {
+    // A directive with the records of the register that it selects.
+    pub fn new(register: &Register, directive: Directive) -> Active
+        ensures { result ≡ active_in (contents register.now).records directive }
+    {
+        Active {
+            directive,
+            selected: directive.selected(register),
+        }
+    }
+
+    // Whether the directive matches the request: the kept set tells whether it selects the record.
+    pub fn matches(&self, parents: &[u8], q: Request) -> bool
+        ensures { (rs : List Held) → length rs ≤ record_places → self.now ≡ active_in rs self.now.directive → result ≡ matches (holding parents.now rs) self.now.directive q }
+    {
+        let selected = self.selected.contains(usize::from(q.record));
+        self.directive.matches(parents, q, selected)
+    }
+}
+
 // The active directives in their order; what stands past the count has no meaning.
 #[derive(Clone, Copy)]
 pub struct ActiveList {
@@ -28,40 +51,34 @@ pub struct ActiveList {
     pub count: usize,
 }
 
-// A directive with the records of the register that it selects.
-pub fn active_in(g: Register, d: Directive) -> Active
-    ensures { result ≡ active_in (contents g).records d }
-{
-    Active {
-        directive: d,
-        selected: directive::selection::selected(g, d),
+impl ActiveList {
+    #[tactic(auto, unfolding(crate::specs::Active::empty_list))]
+    pub fn empty() -> ActiveList
+        ensures { result ≡ empty_list }
+    {
+        let none = Active {
+            directive: Directive::default(),
+            selected: RecordSet { low: 0, high: 0 },
+        };
+        let entries = [none; PLACES];
+        ActiveList {
+            entries: entries,
+            count: 0,
+        }
     }
-}
 
-// What fills a place that holds no directive.
-fn no_active() -> Active
-    ensures { result ≡ no_active }
-{
-    Active {
-        directive: directive::no_directive(),
-        selected: RecordSet { low: 0, high: 0 },
+    // The entries that count, in their order.
+    pub fn as_slice(&self) -> &[Active]
+        ensures value { result.now ≡ entries_of self.now }
+        ensures few { length result.now ≤ active_places }
+    {
+        &self.entries[..self.len()]
     }
-}
 
-pub fn empty_list() -> ActiveList
-    ensures { result ≡ empty_list }
-{
-    let a = no_active();
-    let entries = [a; PLACES];
-    ActiveList {
-        entries: entries,
-        count: 0,
+    // How many directives are active.
+    pub fn len(&self) -> usize
+        ensures { result ≡ length (directives_of self.now) }
+    {
+        self.count.min(PLACES)
     }
-}
-
-// How many directives are active.
-pub fn size(l: ActiveList) -> usize
-    ensures { result ≡ length (directives_of l) }
-{
-    sets::bounds::least(l.count, PLACES)
 }

@@ -2,5 +2,6 @@
 #![tactic(auto)]
 
 pub mod bits;
+pub mod compact;
 pub mod number;
 pub mod record_set;

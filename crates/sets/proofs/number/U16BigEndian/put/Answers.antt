@@ -3,7 +3,6 @@ use Prim.Native.Nat.{◌/◌}
 use native.Mathlib.Nat.{mod-eq_of_lt}
 use native.Mathlib.Numerals.{add-one}
 use borrow.Author.Rules.{rules}
-use lib.ListN.{length-set}
 use Rattle.sets.specs.Numbers.{bytes}
 use Rattle.sets.proofs.number.U16BigEndian.put.Goals as goal
 

@@ -1,7 +1,0 @@
--- `finds::entry_matches`: the kept set tells whether the directive selects the record.
-use mathlib.Core.Path.{◌∙◌}
-use Rattle.active.proofs.ListLaws.{selects_own}
-use Rattle.active.proofs.finds.entry_matches.Goals as goal
-
-pub returns : goal.returns
-returns c rs few own = c.matches.ensures rs (c.member-selected.ensures ∙ selects_own rs own few _)
