@@ -3,6 +3,7 @@
 use Prim.Native.Nat.{ℕ, zero, suc, ◌^◌, ◌<◌, ◌≤◌}
 use mathlib.Core.Path.{◌≡◌, refl, sym, ap, ◌∙◌}
 use mathlib.Core.Bool.{Bool, true, false}
+use mathlib.Core.Logic.{⊎_elim}
 use mathlib.Core.List.{List, []}
 use native.Mathlib.Nat.{mod-eq_of_lt}
 use native.Mathlib.Omega.{arith}
@@ -11,20 +12,24 @@ use lib.ListN.{length, length-append}
 use lib.Seq.{take_all}
 use lib.Dec.{eqb, leb}
 use lib.Bits.{bit_and, and_mask, mask_lt}
-use Rattle.sets.specs.Quantifiers.{pick, one_if}
+use Rattle.std.specs.Prelude.{Ok, Err}
+use Rattle.sets.specs.Quantifiers.{one_if}
 use Rattle.sets.specs.Bits.{subset, non_empty, in_bits, non_empty_set}
 use Rattle.sets.specs.Numbers.{number_from, number_at, bytes, is_bytes}
-use Rattle.sets.proofs.Quantifiers.{same_test, and_both}
+use Rattle.sets.proofs.Quantifiers.{same_test, either_way, and_both}
 use Rattle.sets.proofs.Lists.{all_append}
 use Rattle.sets.proofs.BitLaws.{subset_and}
 use Rattle.sets.proofs.Numbers.{length_bytes, bytes_are_bytes, number_of_bytes, number_at_bound, bytes_next}
-use Rattle.register.specs.Records.{last_reach}
+use Rattle.register.specs.declared.records.Reach.{Reach}
+use Rattle.register.specs.declared.records.Reach.TheVariants.{Itself, Children, Descendants, Folder}
+use Rattle.register.specs.Records.{last_reach, reach_of, reach_number}
 use Rattle.directive.specs.declared.Subject.{Subject}
 use Rattle.directive.specs.declared.Subject.TheVariants.{Person, Role}
 use Rattle.directive.specs.declared.Directive.{Directive}
 use Rattle.drafts.specs.declared.Draft.{Draft}
-use Rattle.drafts.specs.Form.{draft_size, numbers_of, draft_of, every_purpose, keeps_ranges, subject_of, directive_of, kind_of, directive_bytes, well_formed}
-use Rattle.directive.specs.Matching.{number_of}
+use Rattle.drafts.specs.declared.OutOfRange.{OutOfRange}
+use Rattle.drafts.specs.Form.{draft_size, numbers_of, draft_of, every_purpose, keeps_ranges, directive_of, meaning_of, directive_bytes, well_formed}
+use Rattle.directive.specs.Matching.{subject_named, is_role, number_of}
 
 pub length_directive : (d : Directive) → length (directive_bytes d) ≡ draft_size
 unfolding directive_bytes
@@ -42,35 +47,52 @@ purposes_within a h =
     (λ t. lt-ltb a (2 ^ 11) (omega (arith, eqb-true (bit_and a every_purpose) a t, mask_lt a 11)))
     (λ t. eq-eqb (bit_and a every_purpose) a (and_mask a 11 ∙ mod-eq_of_lt (ltb-true a (2 ^ 11) t)))
 
--- an effect and its byte, a subject and its two numbers
-effect_read : (b : Bool) → eqb (one_if b) 1 ≡ b
-effect_read true = refl
-effect_read false = refl
+-- a bit and its byte
+bit_read : (b : Bool) → eqb (one_if b) 1 ≡ b
+bit_read true = refl
+bit_read false = refl
 
-effect_written : (v : ℕ) → v ≤ 1 → one_if (eqb v 1) ≡ v
-effect_written zero h = refl
-effect_written (suc zero) h = refl
-effect_written (suc (suc v)) h = absurd (omega arith)
+bit_written : (v : ℕ) → v ≤ 1 → one_if (eqb v 1) ≡ v
+bit_written zero h = refl
+bit_written (suc zero) h = refl
+bit_written (suc (suc v)) h = absurd (omega arith)
 
-subject_read : (s : Subject) → subject_of (kind_of s) (number_of s) ≡ s
+bit_small : (b : Bool) → one_if b ≤ 1
+bit_small true = omega arith
+bit_small false = omega arith
+
+-- a subject and its two numbers
+subject_read : (s : Subject) → subject_named (is_role s) (number_of s) ≡ s
 subject_read (Person n) = refl
 subject_read (Role n) = refl
 
-kind_written : (k n : ℕ) → k ≤ 1 → kind_of (subject_of k n) ≡ k
-kind_written zero n h = refl
-kind_written (suc zero) n h = refl
-kind_written (suc (suc k)) n h = absurd (omega arith)
+is_role_named : (b : Bool) (n : ℕ) → is_role (subject_named b n) ≡ b
+is_role_named true n = refl
+is_role_named false n = refl
 
-pub subject_number_lem : (kind n : ℕ) → number_of (subject_of kind n) ≡ n
-subject_number_lem kind n = elim (eqb kind 1) as (λ b. number_of (pick b (Role n) (Person n)) ≡ n) [ true ↦ refl | false ↦ refl ]
+pub number_of_named : (b : Bool) (n : ℕ) → number_of (subject_named b n) ≡ n
+number_of_named true n = refl
+number_of_named false n = refl
 
-effect_small : (b : Bool) → one_if b ≤ 1
-effect_small true = omega arith
-effect_small false = omega arith
+-- a reach and its number
+reach_read : (r : Reach) → reach_of (reach_number r) ≡ r
+reach_read Itself = refl
+reach_read Children = refl
+reach_read Descendants = refl
+reach_read Folder = refl
 
-kind_small : (s : Subject) → kind_of s ≤ 1
-kind_small (Person n) = omega arith
-kind_small (Role n) = omega arith
+reach_written : (v : ℕ) → v ≤ last_reach → reach_number (reach_of v) ≡ v
+reach_written zero h = refl
+reach_written (suc zero) h = refl
+reach_written (suc (suc zero)) h = refl
+reach_written (suc (suc (suc zero))) h = refl
+reach_written (suc (suc (suc (suc v)))) h = absurd (omega arith)
+
+reach_small : (r : Reach) → reach_number r ≤ last_reach
+reach_small Itself = omega arith
+reach_small Children = omega arith
+reach_small Descendants = omega arith
+reach_small Folder = omega arith
 
 -- a set of n bits that is not empty
 pub record Filled (n a : ℕ) : Type 0 where
@@ -87,7 +109,6 @@ pub record Formed (d : Directive) : Type 0 where
   pub subject : number_of d.subject < 2 ^ 16
   pub subject_origins : Filled 16 d.subject_origins
   pub root : d.«record» < 2 ^ 8
-  pub reach : d.reach ≤ last_reach
   pub origins : Filled 16 d.origins
   pub sensitivities : Filled 16 d.sensitivities
   pub kinds : Filled 8 d.kinds
@@ -103,8 +124,7 @@ formed d e =
     let (to_kinds, purposes) = and_both _ (non_empty_set 11 d.purposes) to_purposes in
     let (to_sensitivities, kinds) = and_both _ (non_empty_set 8 d.kinds) to_kinds in
     let (to_origins, sensitivities) = and_both _ (non_empty_set 16 d.sensitivities) to_sensitivities in
-    let (to_reach, origins) = and_both _ (non_empty_set 16 d.origins) to_origins in
-    let (to_root, reach) = and_both _ (leb d.reach last_reach) to_reach in
+    let (to_root, origins) = and_both _ (non_empty_set 16 d.origins) to_origins in
     let (to_subject_origins, root) = and_both _ (in_bits 8 d.«record») to_root in
     let (to_subject, subject_origins) = and_both _ (non_empty_set 16 d.subject_origins) to_subject_origins in
     let (number, subject) = and_both _ (in_bits 16 (number_of d.subject)) to_subject in
@@ -113,7 +133,6 @@ formed d e =
       subject = ltb-true _ _ subject;
       subject_origins = filled _ _ subject_origins;
       root = ltb-true _ _ root;
-      reach = leb-true _ _ reach;
       origins = filled _ _ origins;
       sensitivities = filled _ _ sensitivities;
       kinds = filled _ _ kinds;
@@ -128,11 +147,11 @@ draft_for d =
     record {
       number = d.number;
       effect = one_if d.permit;
-      subject_kind = kind_of d.subject;
+      subject_kind = one_if (is_role d.subject);
       subject = number_of d.subject;
       subject_origins = d.subject_origins;
       «record» = d.«record»;
-      reach = d.reach;
+      reach = reach_number d.reach;
       origins = d.origins;
       sensitivities = d.sensitivities;
       kinds = d.kinds;
@@ -148,12 +167,12 @@ module _ (d : Directive) (e : well_formed d ≡ true) where
       let f = formed d e in
       rw (
         number_of_bytes 2 d.number f.number,
-        number_of_bytes 1 (one_if d.permit) (omega (arith, effect_small d.permit)),
-        number_of_bytes 1 (kind_of d.subject) (omega (arith, kind_small d.subject)),
+        number_of_bytes 1 (one_if d.permit) (omega (arith, bit_small d.permit)),
+        number_of_bytes 1 (one_if (is_role d.subject)) (omega (arith, bit_small (is_role d.subject))),
         number_of_bytes 2 (number_of d.subject) f.subject,
         number_of_bytes 2 d.subject_origins f.subject_origins.small,
         number_of_bytes 1 d.«record» f.root,
-        number_of_bytes 1 d.reach (omega arith),
+        number_of_bytes 1 (reach_number d.reach) (omega (arith, reach_small d.reach)),
         number_of_bytes 2 d.origins f.origins.small,
         number_of_bytes 2 d.sensitivities f.sensitivities.small,
         number_of_bytes 1 d.kinds f.kinds.small,
@@ -164,7 +183,7 @@ module _ (d : Directive) (e : well_formed d ≡ true) where
 
   pub decode_encode : directive_of (draft_of (directive_bytes d)) ≡ d
   unfolding directive_of
-  decode_encode = ap directive_of draft_written ∙ rw (effect_read d.permit, subject_read d.subject)
+  decode_encode = ap directive_of draft_written ∙ rw (bit_read d.permit, bit_read (is_role d.subject), subject_read d.subject, reach_read d.reach)
 
   pub ranges_kept : keeps_ranges (draft_of (directive_bytes d)) ≡ true
   unfolding keeps_ranges
@@ -174,9 +193,9 @@ module _ (d : Directive) (e : well_formed d ≡ true) where
       purposes_within d.purposes (omega arith) ∙ lt-ltb _ _ f.purposes.small in
       ap keeps_ranges draft_written
       ∙ rw (
-        le-leb _ _ (effect_small d.permit),
-        le-leb _ _ (kind_small d.subject),
-        le-leb _ _ f.reach,
+        le-leb _ _ (bit_small d.permit),
+        le-leb _ _ (bit_small (is_role d.subject)),
+        le-leb _ _ (reach_small d.reach),
         f.subject_origins.non_empty_lem,
         f.origins.non_empty_lem,
         f.sensitivities.non_empty_lem,
@@ -189,7 +208,7 @@ module _ (d : Directive) (e : well_formed d ≡ true) where
 record Kept (d : Draft) : Type 0 where
   effect : d.effect ≤ 1
   kind : d.subject_kind ≤ 1
-  reach : leb d.reach last_reach ≡ true
+  reach : d.reach ≤ last_reach
   subject_origins : non_empty d.subject_origins ≡ true
   origins : non_empty d.origins ≡ true
   sensitivities : non_empty d.sensitivities ≡ true
@@ -211,7 +230,7 @@ kept d e =
     record {
       effect = leb-true _ _ effect;
       kind = leb-true _ _ kind;
-      reach = reach;
+      reach = leb-true _ _ reach;
       subject_origins = subject_origins;
       origins = origins;
       sensitivities = sensitivities;
@@ -219,6 +238,21 @@ kept d e =
       purposes = purposes;
       within = within;
     }
+
+-- a draft means a directive where it keeps the ranges, and none elsewhere
+pub meant_in_ranges : (s : Draft) (d : Directive) → Ok d ≡ meaning_of s → (keeps_ranges s ≡ true) × (d ≡ directive_of s)
+meant_in_ranges s d e =
+    ⊎_elim
+    (λ (k : keeps_ranges s ≡ true). let f = rw k at e in (k, cc))
+    (λ (k : keeps_ranges s ≡ false). let f = rw k at e in absurd (cc))
+    (either_way (keeps_ranges s))
+
+pub meant_out_of_ranges : (s : Draft) (r : OutOfRange) → Err r ≡ meaning_of s → keeps_ranges s ≡ false
+meant_out_of_ranges s r e =
+    ⊎_elim
+    (λ (k : keeps_ranges s ≡ true). let f = rw k at e in absurd (cc))
+    (λ (k : keeps_ranges s ≡ false). k)
+    (either_way (keeps_ranges s))
 
 -- the widths of a draft's numbers
 pub record Widths (d : Draft) : Type 0 where
@@ -255,12 +289,11 @@ draft_formed d w r =
     let k = kept d r in
     rw (
       lt-ltb _ _ w.number,
-      subject_number_lem d.subject_kind d.subject,
+      number_of_named (eqb d.subject_kind 1) d.subject,
       lt-ltb _ _ w.subject,
       k.subject_origins,
       lt-ltb _ _ w.subject_origins,
       lt-ltb _ _ w.root,
-      k.reach,
       k.origins,
       lt-ltb _ _ w.origins,
       k.sensitivities,
@@ -293,8 +326,10 @@ encode_decode s l e r =
     let to_from = bytes_next s 17 4 _ e (omega arith) to_purposes in
     let to_until = bytes_next s 21 4 _ e (omega arith) to_from in
     rw (
-      effect_written (number_at 2 1 s) k.effect,
-      kind_written (number_at 3 1 s) (number_at 4 2 s) k.kind,
-      subject_number_lem (number_at 3 1 s) (number_at 4 2 s),
+      bit_written (number_at 2 1 s) k.effect,
+      is_role_named (eqb (number_at 3 1 s) 1) (number_at 4 2 s),
+      bit_written (number_at 3 1 s) k.kind,
+      number_of_named (eqb (number_at 3 1 s) 1) (number_at 4 2 s),
+      reach_written (number_at 9 1 s) k.reach,
     )
     (to_until ∙ take_all 25 s (omega arith))

@@ -1,14 +1,13 @@
 -- The bytes of a directive: 25 in edition 2 and in a draft, 23 in edition 1.
-use Rattle.std.specs.Prelude.{ℕ, ◌+◌, Bool, ◌&&◌, List, ◌++◌, take, drop, nat_eq, nat_le}
+use Rattle.std.specs.Prelude.{ℕ, ◌+◌, Bool, ◌&&◌, List, ◌++◌, take, drop, nat_eq, nat_le, Result, Ok, Err}
 use Rattle.sets.specs.Quantifiers.{pick, one_if}
 use Rattle.sets.specs.Bits.{subset, non_empty, in_bits, non_empty_set}
 use Rattle.sets.specs.Numbers.{number_at, bytes}
-use Rattle.register.specs.Records.{last_reach}
-use Rattle.directive.specs.declared.Subject.{Subject}
-use Rattle.directive.specs.declared.Subject.TheVariants.{Person, Role}
+use Rattle.register.specs.Records.{last_reach, reach_of, reach_number}
 use Rattle.directive.specs.declared.Directive.{Directive}
-use Rattle.directive.specs.Matching.{number_of}
+use Rattle.directive.specs.Matching.{subject_named, is_role, number_of}
 use Rattle.drafts.specs.declared.Draft.{Draft}
+use Rattle.drafts.specs.declared.OutOfRange.{OutOfRange}
 
 -- "number 2, effect 1 (0 deny, 1 permit), subject kind 1 (0 person, 1 role), subject 2, subject origins 2, record 1,
 -- reach 1, po 2, ps 2, pt 1, purposes 2, from 4, until 4"
@@ -64,18 +63,15 @@ keeps_ranges d =
     && subset 16 d.purposes every_purpose
 
 -- the directive that a draft within these ranges means
-abbrev pub subject_of : ℕ → ℕ → Subject
-subject_of kind n = pick (nat_eq kind 1) (Role n) (Person n)
-
 unfoldable pub directive_of : Draft → Directive
 directive_of d =
     record {
       number = d.number;
       permit = nat_eq d.effect 1;
-      subject = subject_of d.subject_kind d.subject;
+      subject = subject_named (nat_eq d.subject_kind 1) d.subject;
       subject_origins = d.subject_origins;
       «record» = d.«record»;
-      reach = d.reach;
+      reach = reach_of d.reach;
       origins = d.origins;
       sensitivities = d.sensitivities;
       kinds = d.kinds;
@@ -84,20 +80,20 @@ directive_of d =
       until = d.until;
     }
 
--- the 25 bytes of a directive
-abbrev pub kind_of : Subject → ℕ
-kind_of (Person n) = 0
-kind_of (Role n) = 1
+-- what a draft means: that directive, or none where it does not keep the ranges
+abbrev pub meaning_of : Draft → Result Directive OutOfRange
+meaning_of d = pick (keeps_ranges d) (Ok (directive_of d)) (Err (record {}))
 
+-- the 25 bytes of a directive
 unfoldable pub directive_bytes : Directive → List ℕ
 directive_bytes d =
     bytes 2 d.number
     ++ bytes 1 (one_if d.permit)
-    ++ bytes 1 (kind_of d.subject)
+    ++ bytes 1 (one_if (is_role d.subject))
     ++ bytes 2 (number_of d.subject)
     ++ bytes 2 d.subject_origins
     ++ bytes 1 d.«record»
-    ++ bytes 1 d.reach
+    ++ bytes 1 (reach_number d.reach)
     ++ bytes 2 d.origins
     ++ bytes 2 d.sensitivities
     ++ bytes 1 d.kinds
@@ -112,7 +108,6 @@ well_formed d =
     && in_bits 16 (number_of d.subject)
     && non_empty_set 16 d.subject_origins
     && in_bits 8 d.«record»
-    && nat_le d.reach last_reach
     && non_empty_set 16 d.origins
     && non_empty_set 16 d.sensitivities
     && non_empty_set 8 d.kinds

@@ -26,3 +26,7 @@ pub struct Draft {
     pub from: u32,
     pub until: u32,
 }
+
+// The error of a draft whose numbers do not keep the ranges of question 7.
+#[derive(Clone, Copy, Debug, PartialEq, Eq)]
+pub struct OutOfRange;
