@@ -1,7 +1,7 @@
 // Emergency tokens: the list of them, scope and brief.
 #![tactic(auto)]
 
-ghost use Rattle.std.specs.Prelude.{◌≡◌, ◌≤◌, length};
+ghost use Rattle.std.specs.Prelude.{◌≡◌, ◌≤◌, length, min};
 ghost use Rattle.emergency.specs.Tokens.{token_places, empty_tokens, tokens_of};
 
 use sets::record_set::RecordSet;
@@ -51,7 +51,8 @@ impl TokenList {
 
     // How many tokens there are.
     pub fn len(&self) -> usize
-        ensures { result ≡ length (tokens_of self.now) }
+        ensures value { result ≡ length (tokens_of self.now) }
+        ensures counted { result ≡ min self.now.count token_places }
     {
         self.count.min(PLACES)
     }
