@@ -44,9 +44,7 @@ fn put_digits(out: &mut [u8], at: usize, k: usize, n: u64)
     ensures { out.new ≡ sets out.old at (last_digits 10 k n) }
 {
     let mut rest = n;
-    let mut i = k;
-    while i > 1 {
-        i -= 1;
+    for i in (1..k).rev() {
         out[at + i] = b'0' + (rest % 10) as u8;
         rest /= 10;
     }
