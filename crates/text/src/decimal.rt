@@ -5,7 +5,8 @@ ghost use Rattle.io.specs.Digits.{last_digits, IsDigitCount};
 ghost use Rattle.text.specs.Text.{decimal};
 ghost use Rattle.text.specs.Puts.{Puts};
 
-// How many digits n has. One is the commonest, and is asked first.
+// How many digits n has. One is the commonest, and is asked first. `io::decimal` counts them by divisions: tried, and it takes some
+// 50 instructions more a number.
 fn places(n: u64) -> usize
     ensures digit_count { IsDigitCount 10 1 n result }
     ensures upper_bound { result ≤ 20 }

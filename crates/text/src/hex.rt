@@ -4,6 +4,7 @@ ghost use Rattle.io.specs.Digits.{hex_digit_ascii, last_digits};
 ghost use Rattle.text.specs.Text.{hex_text};
 ghost use Rattle.text.specs.Puts.{Puts};
 
+// A digit in ASCII. `char::from_digit` answers an optional character, which is no plainer for a byte.
 fn digit(d: u8) -> u8
     requires { d < 16 }
     ensures { result ≡ hex_digit_ascii d }

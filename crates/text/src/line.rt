@@ -19,7 +19,7 @@ fn put_rest(out: &mut [u8], at: usize, bytes: &[u8]) -> usize
 
 // What stands in a line.
 fn put_body(out: &mut [u8], numbers: &[u64], bytes: &[u8]) -> usize
-    requires four { length numbers.now ≤ 4 }
+    requires at_most_four { length numbers.now ≤ 4 }
     requires room { 84 + 2 * length bytes.now ≤ length out.old }
     ensures puts { Puts out.old 0 (line_body numbers.now bytes.now) out.new result }
     ensures upper_bound { result ≤ 84 + 2 * length bytes.now }
@@ -34,7 +34,7 @@ fn put_body(out: &mut [u8], numbers: &[u64], bytes: &[u8]) -> usize
 // The line of at most four numbers and the bytes, at the start of the buffer; its length. Four numbers of 20 digits, three blanks
 // between and one before the bytes, two digits a byte and the line end have room.
 pub fn put_line(out: &mut [u8], numbers: &[u64], bytes: &[u8]) -> usize
-    requires four { length numbers.now ≤ 4 }
+    requires at_most_four { length numbers.now ≤ 4 }
     requires room { 85 + 2 * length bytes.now ≤ length out.old }
     ensures out_after { out.new ≡ sets out.old 0 (line_text numbers.now bytes.now) }
     ensures value { result ≡ length (line_text numbers.now bytes.now) }

@@ -15,7 +15,7 @@ fn put_next(out: &mut [u8], at: usize, n: u64) -> usize
 
 // At most four numbers at the start of the buffer; the place after them. Four numbers of 20 digits and three blanks have room.
 pub fn put_numbers(out: &mut [u8], numbers: &[u64]) -> usize
-    requires four { length numbers.now ≤ 4 }
+    requires at_most_four { length numbers.now ≤ 4 }
     requires room { 83 ≤ length out.old }
     ensures puts { Puts out.old 0 (numbers_text numbers.now) out.new result }
     ensures upper_bound { result ≤ 83 }
