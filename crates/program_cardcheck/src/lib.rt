@@ -18,8 +18,8 @@ fn reply(card: &[u8], out: &mut [u8; 85]) -> usize
     ensures { StartsWith out.new result (line_text (card_line card.now) []) }
 {
     let line = card_reading::check::check(card);
-    let numbers = [line.refusal, line.records as u64, line.directives as u64, 0];
-    text::line::put_line(out, numbers, 3, &card[..0])
+    let numbers = [line.refusal, line.records as u64, line.directives as u64];
+    text::line::put_line(out, &numbers, b"")
 }
 
 // The program after its arguments. It succeeds for a refused card too, whose line says so, and fails where a read or the write did. Then no
