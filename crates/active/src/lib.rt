@@ -1,7 +1,7 @@
 // The active directives of a ledger, each with the set of the records that it selects, which is computed once.
 #![tactic(auto)]
 
-ghost use Rattle.std.specs.Prelude.{◌≡◌, ◌≤◌, List, [], ◌∷◌, ◌++◌, length};
+ghost use Rattle.std.specs.Prelude.{◌≡◌, ◌≤◌, List, [], ◌∷◌, ◌++◌, length, min};
 ghost use Rattle.register.specs.declared.Record.{Record as Held};
 ghost use Rattle.register.specs.Register.{record_places, contents, holding};
 ghost use Rattle.directive.specs.Places.{active_places};
@@ -77,7 +77,8 @@ impl ActiveList {
 
     // How many directives are active.
     pub fn len(&self) -> usize
-        ensures { result ≡ length (directives_of self.now) }
+        ensures value { result ≡ length (directives_of self.now) }
+        ensures counted { result ≡ min self.now.count active_places }
     {
         self.count.min(PLACES)
     }

@@ -10,6 +10,7 @@ use lib.Dec.{eqb, leb}
 use Rattle.sets.specs.Quantifiers.{pick, all_in, some_in}
 use Rattle.sets.proofs.Quantifiers.{either_way, both_ways, never_true, and_both, or_cases, implies_of, some_list}
 use Rattle.register.specs.Register.{Contents}
+use Rattle.register.specs.declared.records.Reach.TheVariants.{Itself, Descendants}
 use Rattle.directive.specs.declared.Directive.{Directive}
 use Rattle.directive.specs.declared.Request.{Request}
 use Rattle.directive.specs.Matching.{matches}
@@ -140,12 +141,12 @@ one_by_two m d e f parts =
       repeats_parts d n k parts.one c m.clock m.active,
     )
     (of_both
-    (breaks_baseline c m.patient m.clock (with_reach n 0 d))
-    (breaks_baseline c m.patient m.clock (with_reach k 2 d))
-    (some_in (conflict c m.clock (with_reach n 0 d)) m.active)
-    (some_in (conflict c m.clock (with_reach k 2 d)) m.active)
-    (redundant c m.clock (with_reach n 0 d) m.active)
-    (redundant c m.clock (with_reach k 2 d) m.active))
+    (breaks_baseline c m.patient m.clock (with_reach n Itself d))
+    (breaks_baseline c m.patient m.clock (with_reach k Descendants d))
+    (some_in (conflict c m.clock (with_reach n Itself d)) m.active)
+    (some_in (conflict c m.clock (with_reach k Descendants d)) m.active)
+    (redundant c m.clock (with_reach n Itself d) m.active)
+    (redundant c m.clock (with_reach k Descendants d) m.active))
 
 -- one of the active, of the draft's effect, matches the request
 abbrev CoveredAt : Ledger → List ℕ → Request → Type 0

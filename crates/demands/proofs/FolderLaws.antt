@@ -8,6 +8,8 @@ use Rattle.sets.specs.Quantifiers.{some_in}
 use Rattle.sets.specs.Bits.{bit}
 use Rattle.sets.proofs.Quantifiers.{same_test, either_way, both_ways, and_both, or_cases, or_right, some_list}
 use Rattle.register.specs.Register.{Contents}
+use Rattle.register.specs.declared.records.Reach.{Reach}
+use Rattle.register.specs.declared.records.Reach.TheVariants.{Itself, Descendants, Folder}
 use Rattle.register.specs.Records.{record_at, has_record, reaches}
 use Rattle.register.proofs.ReachLaws.{within_folder, folder}
 use Rattle.directive.specs.declared.Subject.TheVariants.{Person}
@@ -36,7 +38,7 @@ module _ (c : Contents) (d : Directive) (q : Request) where
   matches_where_lem = refl
 
   matches_with :
-      (n k : ℕ) → matches c (with_reach n k d) q ≡ matches_where c d q (reaches c.records k d.«record» q.«record»)
+      (n : ℕ) (k : Reach) → matches c (with_reach n k d) q ≡ matches_where c d q (reaches c.records k d.«record» q.«record»)
   unfolding matches applies_to selects passes_filters
   matches_with n k = refl
 
@@ -56,20 +58,20 @@ module _ (c : Contents) (d : Directive) (q : Request) where
   -- the one matches what either of the two matches
   pub two_parts : (e f : Directive) → OneForTwo d e f → matches c d q ≡ matches c e q || matches c f q
   two_parts e f parts =
-      let within : ℕ → Bool = λ k. matches_where c d q (reaches c.records k d.«record» q.«record») in
+      let within : Reach → Bool = λ k. matches_where c d q (reaches c.records k d.«record» q.«record») in
       matches_where_lem
       ∙ ap within parts.one
       ∙ ap (matches_where c d q) (folder c.records d.«record» q.«record»)
-      ∙ both_parts (reaches c.records 0 d.«record» q.«record») (reaches c.records 2 d.«record» q.«record»)
+      ∙ both_parts (reaches c.records Itself d.«record» q.«record») (reaches c.records Descendants d.«record» q.«record»)
       ∙ sym (ap₂ ◌||◌
-      (ap (λ x. matches c x q) parts.first ∙ matches_with e.number 0)
-      (ap (λ x. matches c x q) parts.second ∙ matches_with f.number 2))
+      (ap (λ x. matches c x q) parts.first ∙ matches_with e.number Itself)
+      (ap (λ x. matches c x q) parts.second ∙ matches_with f.number Descendants))
 
   -- what differs from a directive of reach 3 in the number and the reach alone matches nothing else
   pub part_matches :
-      (n k : ℕ) → d.reach ≡ 3 → matches c (with_reach n k d) q ≡ true → matches c d q ≡ true
+      (n : ℕ) (k : Reach) → d.reach ≡ Folder → matches c (with_reach n k d) q ≡ true → matches c d q ≡ true
   part_matches n k one e =
-      let within : ℕ → Bool = λ j. matches_where c d q (reaches c.records j d.«record» q.«record») in
+      let within : Reach → Bool = λ j. matches_where c d q (reaches c.records j d.«record» q.«record») in
       ⊎_elim
       (λ (t : reaches c.records k d.«record» q.«record» ≡ true).
       matches_where_lem ∙ ap within one
@@ -80,12 +82,12 @@ module _ (c : Contents) (d : Directive) (q : Request) where
       (either_way (reaches c.records k d.«record» q.«record»))
 
 -- the one by the two
-module _ (d : Directive) (n k : ℕ) (one : d.reach ≡ 3) where
+module _ (d : Directive) (n k : ℕ) (one : d.reach ≡ Folder) where
   abbrev first : Directive
-  first = with_reach n 0 d
+  first = with_reach n Itself d
 
   abbrev second : Directive
-  second = with_reach k 2 d
+  second = with_reach k Descendants d
 
   parts : OneForTwo d first second
   parts = record { one = one; first = refl; second = refl }

@@ -3,6 +3,8 @@
 use Rattle.std.specs.Prelude.{ℕ, ◌<◌, ◌≡◌, true, ◌&&◌, ◌||◌, not, length, nat_eq, nat_le}
 use mathlib.Core.List.{List, [], ◌∷◌, map, Memᴰ}
 use Rattle.sets.specs.Quantifiers.{pick}
+use Rattle.register.specs.declared.records.Reach.{Reach}
+use Rattle.register.specs.declared.records.Reach.TheVariants as Reach
 use Rattle.directive.specs.declared.Directive.{Directive}
 use Rattle.directive.specs.declared.Request.{Request}
 use Rattle.directive.specs.declared.Query.{Query}
@@ -24,7 +26,7 @@ use Rattle.demands.specs.Runs.{Run, Reachable}
 use Rattle.demands.specs.Demands.{effect_and_basis, refused_with}
 
 -- the directive with this number and this reach
-abbrev pub with_reach : ℕ → ℕ → Directive → Directive
+abbrev pub with_reach : ℕ → Reach → Directive → Directive
 with_reach number reach d =
     record {
       number = number;
@@ -44,9 +46,9 @@ with_reach number reach d =
 -- "Patients sign two directives where they mean one": the one has reach 3, the two have reach 0 and reach 2, and nothing else but their
 -- numbers differs.
 pub record OneForTwo (d e f : Directive) : Type 0 where
-  pub one : d.reach ≡ 3
-  pub first : e ≡ with_reach e.number 0 d
-  pub second : f ≡ with_reach f.number 2 d
+  pub one : d.reach ≡ Reach.Folder
+  pub first : e ≡ with_reach e.number Reach.Itself d
+  pub second : f ≡ with_reach f.number Reach.Descendants d
 
 -- what a draft's bytes write, with this reach
 abbrev pub at_reach : ℕ → Draft → Draft
@@ -107,7 +109,7 @@ pub record Folder (l : Ledger) : Type 0 where
   -- Where the one is active, a draft that differs from it in number and reach alone, whatever its reach, and passes questions 6 to 12 is
   -- refused 14.
   pub part_redundant :
-      (s : List ℕ) (r : CommitResult) (d : Directive) → Commits l s r → Memᴰ d (view l).active → d.reach ≡ 3 →
+      (s : List ℕ) (r : CommitResult) (d : Directive) → Commits l s r → Memᴰ d (view l).active → d.reach ≡ Reach.Folder →
       drafted s ≡ with_reach (drafted s).number (drafted s).reach d →
       passes (questions_before 13 (bytes_questions meant (view l) s)) ≡ true → refused_with r ≡ 14
 

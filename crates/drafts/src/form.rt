@@ -14,7 +14,6 @@ use sets::number::BigEndian;
 const EVERY_PURPOSE: u16 = 0x07FF;
 
 // The numbers of a directive's bytes, with these purposes, and with from and until at the place `minutes`.
-#[tactic(auto, unfolding(crate::specs::Form::numbers_of))]
 fn numbers_of(s: &[u8], purposes: u16, minutes: usize) -> Draft
     requires { (15 ≤ minutes) × (minutes + 8 ≤ length s.now) }
     ensures { result ≡ numbers_of purposes minutes s.now }
@@ -38,7 +37,6 @@ fn numbers_of(s: &[u8], purposes: u16, minutes: usize) -> Draft
 
 impl Draft {
     // The numbers of the 25 bytes of edition 2 and of a draft.
-    #[tactic(auto, unfolding(crate::specs::Form::draft_of))]
     pub fn from_bytes(s: &[u8]) -> Draft
         requires { draft_size ≤ length s.now }
         ensures { result ≡ draft_of s.now }
@@ -47,7 +45,6 @@ impl Draft {
     }
 
     // The numbers that the 23 bytes of edition 1 mean.
-    #[tactic(auto, using(crate::proofs::EditionLaws::edition_one))]
     pub fn from_first_edition(s: &[u8]) -> Draft
         requires { length s.now ≡ first_edition_size }
         ensures { result ≡ draft_of (with_purposes s.now) }

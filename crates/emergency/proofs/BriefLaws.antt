@@ -1,5 +1,5 @@
 -- Laws of the disclosed records: they are those of the places that hold a record, and as many as a brief counts.
-use Prim.Native.Nat.{ℕ, ◌<◌, ◌≤◌, min}
+use Prim.Native.Nat.{ℕ, ◌≤◌}
 use mathlib.Core.Path.{◌≡◌, ◌∙◌}
 use mathlib.Core.Bool.{◌&&◌}
 use mathlib.Core.List.{List}
@@ -21,13 +21,15 @@ use Rattle.emergency.specs.Emergency.{scope, disclosed}
 
 -- the first n of these places hold the records
 pub disclosed_of :
-    (places : List Record) (n states x : ℕ) → x < length places →
-    ltb x n && shares 16 (record_at places x).labels (scope states) ≡ disclosed (take n places) states x
+    (places : List Record) (n states x : ℕ) →
+    ltb x (length (take n places)) && shares 16 (record_at places x).labels (scope states)
+    ≡ disclosed (take n places) states x
 unfolding disclosed
-disclosed_of places n states x h =
-    elim (dec_lt x n) [
-      | yes l ↦ rw (lt-ltb x n l, get_or-take n places x no_record l, length-take, lt-ltb x (min n (length places)) (omega arith))
-      | no l ↦ rw (le-ltb x n (omega arith), length-take, le-ltb x (min n (length places)) (omega arith))
+disclosed_of places n states x =
+    elim (dec_lt x (length (take n places))) [
+      | yes l ↦
+          rw (lt-ltb x (length (take n places)) l, get_or-take n places x no_record (omega (arith, length-take n places)))
+      | no l ↦ rw (le-ltb x (length (take n places)) (omega arith))
     ]
 
 -- the count of a brief is the number of disclosed records

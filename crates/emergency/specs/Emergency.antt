@@ -2,7 +2,7 @@
 use Rattle.std.specs.Prelude.{ℕ, Bool, ◌&&◌, List, [], ◌∷◌, slice_index_or}
 use Rattle.sets.specs.Quantifiers.{some_below}
 use Rattle.sets.specs.Bits.{bit, shares, set_of}
-use Rattle.sets.specs.RecordSets.{word_of, record_set_of, set_bits, marked}
+use Rattle.sets.specs.RecordSets.{record_set_of, set_bits, marked}
 use Rattle.register.specs.declared.Record.{Record}
 use Rattle.emergency.specs.declared.Brief.{Brief}
 use Rattle.register.specs.Records.{record_at, has_record}
@@ -27,5 +27,5 @@ brief_of rs states = marked (disclosed rs states)
 -- the same as the struct that a brief is
 abbrev pub brief_struct : List Record → ℕ → Brief
 brief_struct rs states =
-    let p = disclosed rs states in
-    record { low = word_of p 0; high = word_of p 1; count = set_bits (record_set_of p) }
+    let shown = record_set_of (disclosed rs states) in
+    record { records = shown; count = set_bits shown }

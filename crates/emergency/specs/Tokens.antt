@@ -1,10 +1,8 @@
 -- The token list of a ledger: its view, and what the walks over it give. No promise of a call rests on what they give.
-use Rattle.std.specs.Prelude.{ℕ, ◌+◌, ◌≤◌, ◌≡◌, not, List, [], ◌∷◌, ◌++◌, take, replicate, nat_le}
+use Rattle.std.specs.Prelude.{ℕ, ◌+◌, ◌≤◌, ◌≡◌, not, List, [], ◌∷◌, ◌++◌, take, replicate, nat_le, Option, None, Some}
 use Rattle.sets.specs.Quantifiers.{keep}
 use Rattle.emergency.specs.declared.Token.{Token}
 use Rattle.emergency.specs.declared.TokenList.{TokenList}
-use Rattle.emergency.specs.declared.list.TokenStates.{TokenStates}
-use Rattle.emergency.specs.declared.list.TokenStates.TheVariants.{States, Nothing}
 
 -- "Fewer than 4 live?"
 abbrev pub token_places : ℕ
@@ -32,6 +30,6 @@ pub record LiveOf (t : ℕ) (l r : TokenList) : Type 0 where
   pub tokens : tokens_of r ≡ keep (λ k. not (nat_le k.until t)) (tokens_of l)
 
 -- the states of the first of these tokens
-abbrev pub states_of : List Token → TokenStates
-states_of [] = Nothing
-states_of (t ∷ ts) = States t.states
+abbrev pub states_of : List Token → Option ℕ
+states_of [] = None
+states_of (t ∷ ts) = Some t.states

@@ -1,8 +1,10 @@
 // Emergency tokens: the list of them, scope and brief.
 #![tactic(auto)]
 
-ghost use Rattle.std.specs.Prelude.{◌≡◌, length};
-ghost use Rattle.emergency.specs.Tokens.{no_token, empty_tokens, tokens_of};
+ghost use Rattle.std.specs.Prelude.{◌≡◌, ◌≤◌, length, min};
+ghost use Rattle.emergency.specs.Tokens.{token_places, empty_tokens, tokens_of};
+
+use sets::record_set::RecordSet;
 
 pub mod disclosure;
 pub mod list;
@@ -11,7 +13,7 @@ pub mod scope;
 // How many tokens can be live.
 pub const PLACES: usize = 4;
 
-#[derive(Clone, Copy)]
+#[derive(Clone, Copy, Default)]
 pub struct Token {
     pub number: u16,
     pub person: u16,
@@ -26,40 +28,39 @@ pub struct TokenList {
     pub count: usize,
 }
 
-// Bit i is record i (low) and record 64 + i (high).
+impl TokenList {
+    #[tactic(auto, unfolding(crate::specs::Tokens::empty_tokens))]
+    pub fn empty() -> TokenList
+        ensures { result ≡ empty_tokens }
+    {
+        let none = Token::default();
+        let tokens = [none; PLACES];
+        TokenList {
+            tokens: tokens,
+            count: 0,
+        }
+    }
+
+    // The tokens that count, in order of issue.
+    pub fn as_slice(&self) -> &[Token]
+        ensures value { result.now ≡ tokens_of self.now }
+        ensures few { length result.now ≤ token_places }
+    {
+        &self.tokens[..self.len()]
+    }
+
+    // How many tokens there are.
+    pub fn len(&self) -> usize
+        ensures value { result ≡ length (tokens_of self.now) }
+        ensures counted { result ≡ min self.now.count token_places }
+    {
+        self.count.min(PLACES)
+    }
+}
+
+// The records that a scope discloses, and how many they are.
 #[derive(Clone, Copy)]
 pub struct Brief {
-    pub low: u64,
-    pub high: u64,
+    pub records: RecordSet,
     pub count: u32,
-}
-
-// What fills a place that holds no token.
-fn no_token() -> Token
-    ensures { result ≡ no_token }
-{
-    Token {
-        number: 0,
-        person: 0,
-        states: 0,
-        until: 0,
-    }
-}
-
-pub fn empty_list() -> TokenList
-    ensures { result ≡ empty_tokens }
-{
-    let t = no_token();
-    let tokens = [t; PLACES];
-    TokenList {
-        tokens: tokens,
-        count: 0,
-    }
-}
-
-// How many tokens there are.
-pub fn size(l: TokenList) -> usize
-    ensures { result ≡ length (tokens_of l) }
-{
-    sets::bounds::least(l.count, PLACES)
 }

@@ -16,14 +16,14 @@ use Rattle.ledger.specs.declared.answer.DirectiveRefusal.{DirectiveRefusal}
 use Rattle.ledger.specs.declared.answer.DirectiveRefusal.TheVariants.{OutOfRange, NotInRegister, NoMinutes, NumberTaken, ListFull, BreaksBaseline, Conflicts}
 use Rattle.ledger_model.specs.Model.{Model}
 use Rattle.ledger_model.specs.Answer.{Answer, done, accepted}
-use Rattle.ledger.specs.Answer.{directive_answer}
+use Rattle.ledger.specs.Answer.{directive_refusal}
 use Rattle.ledger_model.specs.Questions.{ask, first_no, Outcome, outcome, directive_questions, draft_questions}
 use Rattle.ledger_model.specs.Calls.{with_last, committed_draft_by}
 use Rattle.ledger_model.specs.Invariant.{ModelInvariant}
 use Rattle.ledger_model.proofs.Questions.{outcome_accepted, outcome_refused, outcome_append}
 use Rattle.ledger_model.proofs.Agree.{questions_agree, sound_searchable}
 
-pub not_accepted : (r : DirectiveRefusal) → accepted (directive_answer r) ≡ false
+pub not_accepted : (r : DirectiveRefusal) → accepted (directive_refusal r) ≡ false
 not_accepted OutOfRange = refl
 not_accepted NotInRegister = refl
 not_accepted NoMinutes = refl

@@ -1,5 +1,5 @@
 -- Laws of what the calls promise: of a refusal, of a change, and of how many a walk drops.
-use Prim.Native.Nat.{ℕ, ◌-◌, ◌≤◌}
+use Prim.Native.Nat.{ℕ, ◌-◌, ◌<◌, ◌≤◌}
 use mathlib.Core.Path.{◌≡◌, refl, ap}
 use mathlib.Core.Bool.{Bool, not}
 use mathlib.Core.List.{List}
@@ -9,12 +9,19 @@ use Rattle.sets.specs.Quantifiers.{keep, count_in}
 use Rattle.sets.proofs.Quantifiers.{both_ways}
 use Rattle.sets.proofs.Keep.{count_keep}
 use Rattle.register.specs.Register.{record_places}
+use Rattle.directive.specs.declared.Directive.{Directive}
+use Rattle.directive.specs.Places.{active_places}
+use Rattle.active.specs.declared.Active.{Active}
 use Rattle.active.specs.declared.ActiveList.{ActiveList}
-use Rattle.active.specs.Active.{ActiveInvariant}
+use Rattle.active.specs.Active.{active_in, ActiveInvariant}
+use Rattle.active.specs.Changes.{Pushed}
+use Rattle.active.proofs.ListLaws.{directives_pushed, invariant_pushed}
 use Rattle.emergency.specs.declared.TokenList.{TokenList}
 use Rattle.emergency.specs.Tokens.{token_places}
 use Rattle.ledger.specs.declared.Ledger.{Ledger}
 use Rattle.ledger.specs.State.{view}
+use Rattle.ledger_model.specs.Model.{with_active}
+use Rattle.ledger_model.specs.Calls.{with_last}
 use Rattle.ledger_model.specs.Answer.{Answer, done}
 use Rattle.ledger_model.specs.Questions.{Outcome}
 use Rattle.ledger_model.specs.Invariant.{ModelInvariant}
@@ -53,6 +60,17 @@ shape_held shape clock a t selections tokens =
       active_held = selections;
       tokens_held = tokens;
     }
+
+-- one directive more, last
+module _ (l : Ledger) {a : Active} {r : ActiveList} (pushed : Pushed l.active a r) where
+  pub view_pushed : view (held_with l l.clock r l.tokens) ≡ with_last (view l) a.directive
+  view_pushed = ap (λ (ds : List Directive). with_active (view l) ds) (directives_pushed pushed)
+
+  pub shape_pushed :
+      Shape l → l.active.count < active_places → a ≡ active_in (view l).register.records a.directive →
+      Shape (held_with l l.clock r l.tokens)
+  shape_pushed shape room own =
+      shape_held shape l.clock r l.tokens (invariant_pushed pushed shape.active_held room own) shape.tokens_held
 
 -- those that pass are as many as the others are fewer
 pub dropped_count :

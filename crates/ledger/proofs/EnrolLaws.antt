@@ -7,7 +7,9 @@ use Rattle.sets.proofs.Quantifiers.{both_ways}
 use Rattle.register.specs.declared.Register.{Register}
 use Rattle.register.specs.Register.{Contents, contents, role_places, record_places}
 use Rattle.active.proofs.ListLaws.{none_active}
+use Rattle.std.specs.Prelude.{Ok, Err}
 use Rattle.ledger.specs.declared.Ledger.{Ledger}
+use Rattle.ledger.specs.declared.enrolment.OutOfRange.{OutOfRange}
 use Rattle.ledger_model.specs.Model.{Model, with_register}
 use Rattle.ledger.specs.State.{view}
 use Rattle.ledger_model.specs.Invariant.{RegisterInvariant}
@@ -20,14 +22,14 @@ abbrev pub register_with : Ledger → Register → Ledger
 register_with l g = record { patient = l.patient; clock = l.clock; register = g; active = l.active; tokens = l.tokens }
 
 module _ {l : Ledger} (invariant : Invariant l) where
-  pub out_of_range : {kept : Bool} {m : Model} → kept ≡ false → Enrols l kept m (record { fits = false; ledger = l })
+  pub out_of_range : {kept : Bool} {m : Model} → kept ≡ false → {e : OutOfRange} → Enrols l kept m (Err e) l
   out_of_range e = record { fits = rw e; ledger = λ t. both_ways t e; unchanged = λ _. refl; invariant = invariant }
 
   -- where there are no directives yet
   pub enrolled :
       {kept : Bool} {c : Contents} (g : Register) → kept ≡ true → (view l).active ≡ [] → contents g ≡ c →
       RegisterInvariant c → g.role_count ≤ role_places → g.record_count ≤ record_places →
-      Enrols l kept (with_register (view l) c) (record { fits = true; ledger = register_with l g })
+      Enrols l kept (with_register (view l) c) (Ok tt) (register_with l g)
   enrolled g e none same register roles records =
       record {
         fits = rw e;

@@ -2,3 +2,4 @@ pub mod Beginning
 pub mod CallLaws
 pub mod AdmitLaws
 pub mod EnrolLaws
+pub mod AskLaws

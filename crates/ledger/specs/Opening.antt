@@ -5,10 +5,6 @@ use Rattle.directive.specs.declared.Query.{Query}
 use Rattle.ledger_model.specs.Model.{Model}
 use Rattle.ledger_model.specs.Decision.{is_patient, is_author}
 use Rattle.ledger_model.specs.Questions.{is_in_range}
-use Rattle.ledger_model.specs.Calls.{decided}
-use Rattle.ledger.specs.declared.decision.Opening.{Opening}
-use Rattle.ledger.specs.declared.decision.Opening.TheVariants.{Made, Open}
-use Rattle.ledger.specs.Answer.{decide_answer}
 
 -- question 17 passed, and neither the patient nor the record's author asks; the default consent looks at these origins
 pub record Undecided (m : Model) (q : Query) (origins : ℕ) : Type 0 where
@@ -16,7 +12,3 @@ pub record Undecided (m : Model) (q : Query) (origins : ℕ) : Type 0 where
   pub no_patient : is_patient m q ≡ false
   pub no_author : is_author m q ≡ false
   pub default : origins ≡ (record_at m.register.records q.«record»).origins
-
-abbrev pub Opens : Model → Query → Opening → Type 0
-Opens m q (Made a) = decide_answer a ≡ decided m q
-Opens m q (Open origins) = Undecided m q origins

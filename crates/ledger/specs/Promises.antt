@@ -3,23 +3,14 @@
 -- back the ledger itself; what stands past a count of the ledger after a success is free.
 use Rattle.std.specs.Prelude.{ℕ, ◌≡◌, false, List}
 use Rattle.directive.specs.declared.Query.{Query}
-use Rattle.active.specs.declared.Active.{Active}
-use Rattle.active.specs.Active.{active_in}
 use Rattle.drafts.specs.declared.Draft.{Draft}
 use Rattle.ledger.specs.declared.Ledger.{Ledger}
-use Rattle.ledger.specs.declared.answer.AdmitResult.{AdmitResult}
-use Rattle.ledger.specs.declared.answer.CommitResult.{CommitResult}
-use Rattle.ledger.specs.declared.answer.RevokeResult.{RevokeResult}
-use Rattle.ledger.specs.declared.answer.AdvanceResult.{AdvanceResult}
-use Rattle.ledger.specs.declared.answer.IssueResult.{IssueResult}
-use Rattle.ledger.specs.declared.answer.BriefAnswer.{BriefAnswer}
-use Rattle.ledger.specs.declared.answer.DecideAnswer.{DecideAnswer}
 use Rattle.ledger.specs.State.{view}
 use Rattle.ledger_model.specs.Answer.{Answer, accepted}
-use Rattle.ledger.specs.Answer.{admit_answer, commit_answer, revoke_answer, advance_answer, issue_answer, brief_answer, decide_answer}
+use Rattle.ledger.specs.Answer.{AdmitAnswer, CommitAnswer, RevokeAnswer, AdvanceAnswer, IssueAnswer, BriefAnswer, DecideAnswer, admit_answer, commit_answer, revoke_answer, advance_answer, issue_answer, brief_answer, decide_answer}
 use Rattle.ledger_model.specs.Questions.{Outcome}
-use Rattle.ledger_model.specs.Calls.{with_last, admitted, committed_draft, committed, revoked, advanced, issued, decided, briefed}
-use Rattle.ledger.specs.Invariant.{Shape, Invariant}
+use Rattle.ledger_model.specs.Calls.{admitted, committed_draft, committed, revoked, advanced, issued, decided, briefed}
+use Rattle.ledger.specs.Invariant.{Invariant}
 
 -- The answer a and the ledger `after` are those of the outcome o; after a refusal the ledger is l itself.
 pub record Gives (l : Ledger) (o : Outcome) (a : Answer) (after : Ledger) : Type 0 where
@@ -28,10 +19,28 @@ pub record Gives (l : Ledger) (o : Outcome) (a : Answer) (after : Ledger) : Type
   pub unchanged : accepted a ≡ false → after ≡ l
   pub invariant : Invariant after
 
--- One directive more, last: what the step of admit and commit that stores it promises.
-pub record Extends (l : Ledger) (a : Active) (after : Ledger) : Type 0 where
-  pub ledger : view after ≡ with_last (view l) a.directive
-  pub shape : Shape l → a ≡ active_in (view l).register.records a.directive → Shape after
+-- What a call that can change the ledger gives: its answer, and the ledger after it.
+pub record After (A : Type 0) : Type 0 where
+  pub answer : A
+  pub ledger : Ledger
+
+abbrev pub after : {A : Type 0} → A → Ledger → After A
+after a l = record { answer = a; ledger = l }
+
+abbrev pub AdmitResult : Type 0
+AdmitResult = After AdmitAnswer
+
+abbrev pub CommitResult : Type 0
+CommitResult = After CommitAnswer
+
+abbrev pub RevokeResult : Type 0
+RevokeResult = After RevokeAnswer
+
+abbrev pub AdvanceResult : Type 0
+AdvanceResult = After AdvanceAnswer
+
+abbrev pub IssueResult : Type 0
+IssueResult = After IssueAnswer
 
 -- a directive put to questions 7 to 13 alone
 abbrev pub Admits : Ledger → Draft → AdmitResult → Type 0

@@ -1,11 +1,9 @@
-// The answers of the calls, an enum for each kind; specs/Answer.antt gives the number and the values of each case. A call
-// that can change the ledger gives it back beside its answer.
+// What the calls answer where they succeed, and what they are refused for; specs/Answer gives the numbers and values of each case.
 ghost use Rattle.std.specs.Prelude.{◌≡◌};
-ghost use Rattle.ledger.specs.Answer.{directive_answer};
 ghost use Rattle.ledger_model.specs.Answer.{refusal};
+ghost use Rattle.ledger.specs.Answer.{directive_refusal, commit_refusal};
 
-use crate::Ledger;
-use emergency::Brief;
+use drafts::OutOfRange;
 
 // What questions 7 to 13 refuse, of a draft and of a card's directive alike.
 #[derive(Clone, Copy)]
@@ -20,100 +18,99 @@ pub enum DirectiveRefusal {
     Conflicts(u16),
 }
 
-// The number of the question missed.
-pub fn refusal_of(r: DirectiveRefusal) -> u64
-    ensures { result ≡ refusal (directive_answer r) }
-{
-    match r {
-        DirectiveRefusal::OutOfRange => 7,
-        DirectiveRefusal::NotInRegister => 8,
-        DirectiveRefusal::NoMinutes => 9,
-        DirectiveRefusal::NumberTaken => 10,
-        DirectiveRefusal::ListFull => 11,
-        DirectiveRefusal::BreaksBaseline => 12,
-        DirectiveRefusal::Conflicts(_) => 13,
+impl DirectiveRefusal {
+    // The number of the question missed.
+    pub fn question(self) -> u64
+        ensures { result ≡ refusal (directive_refusal self) }
+    {
+        match self {
+            DirectiveRefusal::OutOfRange => 7,
+            DirectiveRefusal::NotInRegister => 8,
+            DirectiveRefusal::NoMinutes => 9,
+            DirectiveRefusal::NumberTaken => 10,
+            DirectiveRefusal::ListFull => 11,
+            DirectiveRefusal::BreaksBaseline => 12,
+            DirectiveRefusal::Conflicts(_) => 13,
+        }
     }
 }
 
-// The answer to a directive that is put to questions 7 to 13 alone.
-#[derive(Clone, Copy)]
-pub enum AdmitAnswer {
-    Admitted,
-    Refused(DirectiveRefusal),
+impl From<OutOfRange> for DirectiveRefusal {
+    ghost use Rattle.ledger.specs.declared.answer.DirectiveRefusal.TheVariants as Refusal;
+
+    ghost from_gives = { λ _ r. r ≡ Refusal.OutOfRange };
+
+    fn from(_error: OutOfRange) -> DirectiveRefusal {
+        DirectiveRefusal::OutOfRange
+    }
 }
 
 #[derive(Clone, Copy)]
-pub struct AdmitResult {
-    pub answer: AdmitAnswer,
-    pub ledger: Ledger,
-}
-
-#[derive(Clone, Copy)]
-pub enum CommitAnswer {
-    Committed,
+pub enum CommitRefusal {
     WrongLength,
-    Refused(DirectiveRefusal),
+    Directive(DirectiveRefusal),
     Redundant,
 }
 
-#[derive(Clone, Copy)]
-pub struct CommitResult {
-    pub answer: CommitAnswer,
-    pub ledger: Ledger,
+impl CommitRefusal {
+    // The number of the question missed.
+    pub fn question(self) -> u64
+        ensures { result ≡ refusal (commit_refusal self) }
+    {
+        match self {
+            CommitRefusal::WrongLength => 6,
+            CommitRefusal::Directive(why) => why.question(),
+            CommitRefusal::Redundant => 14,
+        }
+    }
 }
 
-#[derive(Clone, Copy)]
-pub enum RevokeAnswer {
-    Revoked,
-    NotActive,
+impl From<DirectiveRefusal> for CommitRefusal {
+    ghost use Rattle.ledger.specs.declared.answer.CommitRefusal.TheVariants as Refusal;
+
+    ghost from_gives = { λ why r. r ≡ Refusal.Directive why };
+
+    fn from(why: DirectiveRefusal) -> CommitRefusal {
+        CommitRefusal::Directive(why)
+    }
 }
 
+// No active directive has the number.
 #[derive(Clone, Copy)]
-pub struct RevokeResult {
-    pub answer: RevokeAnswer,
-    pub ledger: Ledger,
+pub struct NotActive;
+
+// How many directives and tokens an advance dropped.
+#[derive(Clone, Copy)]
+pub struct Dropped {
+    pub directives: usize,
+    pub tokens: usize,
 }
 
+// The minute is before the clock.
 #[derive(Clone, Copy)]
-pub enum AdvanceAnswer {
-    // how many were dropped
-    Advanced { directives: usize, tokens: usize },
-    BeforeClock,
-}
+pub struct BeforeClock;
 
 #[derive(Clone, Copy)]
-pub struct AdvanceResult {
-    pub answer: AdvanceAnswer,
-    pub ledger: Ledger,
-}
-
-#[derive(Clone, Copy)]
-pub enum IssueAnswer {
-    Issued,
+pub enum IssueRefusal {
     NoState,
     WrongMinutes,
     NumberTaken,
     TokensFull,
 }
 
+// No live token has the number and the person.
 #[derive(Clone, Copy)]
-pub struct IssueResult {
-    pub answer: IssueAnswer,
-    pub ledger: Ledger,
-}
-
-#[derive(Clone, Copy)]
-pub enum BriefAnswer {
-    Disclosed(Brief),
-    NoToken,
-}
+pub struct NoToken;
 
 // One case a basis.
 #[derive(Clone, Copy)]
-pub enum DecideAnswer {
+pub enum Decision {
     Patient,
     Author,
     Directive { permit: bool, number: u16 },
     Default { permit: bool },
-    NotInRegister,
 }
+
+// Something of the query is not in the register, or out of range.
+#[derive(Clone, Copy)]
+pub struct NotInRegister;

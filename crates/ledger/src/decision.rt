@@ -1,6 +1,7 @@
 // The decision on a query at the clock.
-ghost use Rattle.std.specs.Prelude.{◌≡◌};
+ghost use Rattle.std.specs.Prelude.{◌≡◌, Option, Ok};
 ghost use Rattle.register.specs.Register.{contents};
+ghost use Rattle.directive.specs.declared.lowest.Best.{Best as Lowest};
 ghost use Rattle.directive.specs.Matching.{request_at};
 ghost use Rattle.directive.specs.Lowest.{best_of};
 ghost use Rattle.ledger_model.specs.Model.{Model};
@@ -8,14 +9,15 @@ ghost use Rattle.ledger_model.specs.Decision.{matching};
 ghost use Rattle.ledger_model.specs.Questions.{requester_in_range, is_in_range};
 ghost use Rattle.ledger_model.specs.Calls.{decided};
 ghost use Rattle.ledger.specs.Answer.{decide_answer};
-ghost use Rattle.ledger.specs.Opening.{Undecided, Opens};
+ghost use Rattle.ledger.specs.Opening.{Undecided};
 ghost use Rattle.ledger.specs.Promises.{Decides};
 
 use crate::Ledger;
-use crate::answer::DecideAnswer;
+use crate::answer::{Decision, NotInRegister};
 use directive::lowest::Best;
-use directive::{Query, Request};
+use directive::{Query, Request, Requester};
 use register::Register;
+use sets::bits;
 
 // How many origins and purposes there are.
 const ORIGINS: u8 = 16;
@@ -23,96 +25,71 @@ const ORIGINS: u8 = 16;
 const PURPOSES: u8 = 11;
 
 // The requester's part of question 17.
-pub fn requester_in_range(g: Register, role: u16, origin: u8, purpose: u8) -> bool
-    ensures { result ≡ requester_in_range (contents g) role origin purpose }
+pub fn requester_in_range(register: &Register, role: u16, origin: u8, purpose: u8) -> bool
+    ensures { result ≡ requester_in_range (contents register.now) role origin purpose }
 {
-    if sets::bounds::least(g.role_count, register::ROLES) <= role as usize {
-        return false;
-    }
-    if ORIGINS <= origin {
-        return false;
-    }
-    purpose < PURPOSES
+    usize::from(role) < register.roles().len() && origin < ORIGINS && purpose < PURPOSES
 }
 
 // Question 17.
-fn in_range(g: Register, q: Query) -> bool
-    ensures { result ≡ is_in_range (contents g) q }
+fn in_range(register: &Register, q: Query) -> bool
+    ensures { result ≡ is_in_range (contents register.now) q }
 {
-    if !requester_in_range(g, q.role, q.origin, q.purpose) {
-        return false;
+    requester_in_range(register, q.role, q.origin, q.purpose)
+        && usize::from(q.record) < register.records().len()
+}
+
+// The lowest directive that matches, and without one the default consent of a record of these origins.
+fn by_directives(best: Option<Best>, origins: u16, q: Query) -> Decision
+    ensures { (m : Model) → Undecided m q origins → best ≡ best_of (matching m q) → decide_answer (Ok result) ≡ decided m q }
+{
+    match best {
+        Some(lowest) => Decision::Directive {
+            permit: lowest.permit,
+            number: lowest.number,
+        },
+        None => Decision::Default {
+            permit: bits::has(origins, q.origin) && q.purpose == 0,
+        },
     }
-    (q.record as usize) < sets::bounds::least(g.record_count, register::RECORDS)
 }
 
-// The request that the query is at the minute.
-pub fn request_at(q: Query, minute: u32) -> Request
-    ensures { result ≡ request_at q minute }
+// Question 17, the patient, the author, and then the directives: `lowest_match` gives the lowest of the active that matches a request.
+pub fn decide_by<F: Fn(Request) -> Option<Best>>(
+    patient: u16,
+    clock: u32,
+    register: &Register,
+    q: Query,
+    lowest_match: F,
+) -> Result<Decision, NotInRegister>
+    requires { F.IsAlwaysCallable lowest_match }
+    ensures { (m : Model) → m.patient ≡ patient → m.register ≡ contents register.now → ((best : Option Lowest) → F.post lowest_match (request_at q clock) best → best ≡ best_of (matching m q)) → decide_answer result ≡ decided m q }
 {
-    Request {
-        person: q.person,
-        role: q.role,
-        origin: q.origin,
-        record: q.record,
-        purpose: q.purpose,
-        minute: minute,
-    }
-}
-
-// How far a decision is before the directives: made, or open, with the origins of the record asked for.
-#[derive(Clone, Copy)]
-pub enum Opening {
-    Made(DecideAnswer),
-    Open(u16),
-}
-
-// Question 17, the patient and the author.
-pub fn before_directives(patient: u16, g: Register, q: Query) -> Opening
-    ensures { (m : Model) → m.patient ≡ patient → m.register ≡ contents g → Opens m q result }
-{
-    if !in_range(g, q) {
-        return Opening::Made(DecideAnswer::NotInRegister);
+    if !in_range(register, q) {
+        return Err(NotInRegister);
     }
     if q.person == patient {
-        return Opening::Made(DecideAnswer::Patient);
+        return Ok(Decision::Patient);
     }
-    let r = register::records::record_at(g, q.record as usize);
-    if q.person == r.author {
-        return Opening::Made(DecideAnswer::Author);
+    let record = register.record_at(usize::from(q.record));
+    if q.person == record.author {
+        return Ok(Decision::Author);
     }
-    Opening::Open(r.origins)
+    Ok(by_directives(lowest_match(q.at(clock)), record.origins, q))
 }
 
-// The lowest directive that matches, and without one the default consent.
-pub fn by_directives(best: Best, origins: u16, q: Query) -> DecideAnswer
-    ensures { (m : Model) → Undecided m q origins → best ≡ best_of (matching m q) → decide_answer result ≡ decided m q }
-{
-    if best.found {
-        return DecideAnswer::Directive {
-            permit: best.permit,
-            number: best.number,
-        };
-    }
-    if !sets::bits::has(origins, q.origin) {
-        return DecideAnswer::Default { permit: false };
-    }
-    DecideAnswer::Default {
-        permit: q.purpose == 0,
-    }
-}
-
-pub fn decide(l: Ledger, q: Query) -> DecideAnswer
-    ensures { Decides l q result }
-{
-    let g = l.register;
-    match before_directives(l.patient, g, q) {
-        Opening::Made(a) => a,
-        Opening::Open(origins) => {
-            let parents = g.roles;
-            let list = l.active;
-            let asked = request_at(q, l.clock);
-            let best = active::finds::lowest_match(list, &parents, g.role_count, asked);
-            by_directives(best, origins, q)
-        }
+impl Ledger {
+    pub fn decide(&self, q: Query) -> Result<Decision, NotInRegister>
+        ensures { Decides self.now q result }
+    {
+        let roles = self.register.roles();
+        let list = &self.active;
+        decide_by(
+            self.patient,
+            self.clock,
+            &self.register,
+            q,
+            |asked: Request| list.lowest_match(roles, asked),
+        )
     }
 }

@@ -4,71 +4,48 @@ ghost use Rattle.register.specs.Register.{role_places, record_places};
 ghost use Rattle.ledger.specs.Enrolment.{BeginsWith, EnrolsRoles, EnrolsRecord};
 
 use crate::Ledger;
-use register::Record;
+use register::{Record, form};
 
-// Whether the ranges are kept, and the ledger with the roles or the record; where they are not, the ledger as it was.
+// The ranges of question 4 are not kept.
 #[derive(Clone, Copy)]
-pub struct Enrolled {
-    pub fits: bool,
-    pub ledger: Ledger,
-}
+pub struct OutOfRange;
 
-// The patient and the clock, and nothing else.
-pub fn begin(patient: u16, clock: u32) -> Ledger
-    ensures { BeginsWith patient clock result }
-{
-    let mut l = crate::empty();
-    l.patient = patient;
-    l.clock = clock;
-    l
-}
+impl Ledger {
+    // The patient and the clock, and nothing else.
+    pub fn begin(patient: u16, clock: u32) -> Ledger
+        ensures { BeginsWith patient clock result }
+    {
+        let mut ledger = Ledger::empty();
+        ledger.patient = patient;
+        ledger.clock = clock;
+        ledger
+    }
 
-// The parents of the roles, for a ledger that has none yet.
-pub fn enrol_roles(l: Ledger, parents: &[u8]) -> Enrolled
-    requires { (length parents.now ≤ role_places) × (l.register.role_count ≡ 0) }
-    ensures { EnrolsRoles l parents.now result }
-{
-    if !register::form::is_tree(parents) {
-        return Enrolled {
-            fits: false,
-            ledger: l,
-        };
+    // Takes the parents of the roles into a ledger that has none yet.
+    pub fn enrol_roles(&mut self, parents: &[u8]) -> Result<(), OutOfRange>
+        requires { (length parents.now ≤ role_places) × (self.old.register.role_count ≡ 0) }
+        ensures { EnrolsRoles self.old parents.now result self.new }
+    {
+        if !form::is_tree(parents) {
+            return Err(OutOfRange);
+        }
+        let n = parents.len();
+        self.register.roles[..n].copy_from_slice(parents);
+        self.register.role_count = n;
+        Ok(())
     }
-    let n = parents.len();
-    let mut g = l.register;
-    let mut roles = g.roles;
-    for q in 0..n {
-        roles[q] = parents[q];
-    }
-    g.roles = roles;
-    g.role_count = n;
-    let mut next = l;
-    next.register = g;
-    Enrolled {
-        fits: true,
-        ledger: next,
-    }
-}
 
-// One record more, for a ledger that has roles and no directives.
-pub fn enrol_record(l: Ledger, r: Record) -> Enrolled
-    requires { (l.register.record_count < record_places) × (0 < l.register.role_count) × (l.active.count ≡ 0) }
-    ensures { EnrolsRecord l r result }
-{
-    let mut g = l.register;
-    let at = g.record_count;
-    if !register::form::record_fits(at, r) {
-        return Enrolled {
-            fits: false,
-            ledger: l,
-        };
-    }
-    g.records[at] = r;
-    g.record_count = at + 1;
-    let mut next = l;
-    next.register = g;
-    Enrolled {
-        fits: true,
-        ledger: next,
+    // Takes one record more into a ledger that has roles and no directives.
+    pub fn enrol_record(&mut self, r: Record) -> Result<(), OutOfRange>
+        requires { (self.old.register.record_count < record_places) × (0 < self.old.register.role_count) × (self.old.active.count ≡ 0) }
+        ensures { EnrolsRecord self.old r result self.new }
+    {
+        let at = self.register.records().len();
+        if !r.fits(at) {
+            return Err(OutOfRange);
+        }
+        self.register.records[at] = r;
+        self.register.record_count = at + 1;
+        Ok(())
     }
 }

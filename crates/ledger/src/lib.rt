@@ -13,7 +13,6 @@ pub mod calls;
 pub mod commit;
 pub mod decision;
 pub mod enrolment;
-pub mod views;
 
 // The fields are private: a ledger comes from `empty`, from reading a card, from a call, or back from where it was stored (`from_parts`).
 #[derive(Clone, Copy)]
@@ -25,37 +24,67 @@ pub struct Ledger {
     tokens: TokenList,
 }
 
-// Patient 0, clock 0 and nothing else.
-pub fn empty() -> Ledger
-    ensures { result ≡ empty_ledger }
-{
-    let register = register::empty_register();
-    let active = active::empty_list();
-    let tokens = emergency::empty_list();
-    Ledger {
-        patient: 0,
-        clock: 0,
-        register: register,
-        active: active,
-        tokens: tokens,
+impl Ledger {
+    // Patient 0, clock 0 and nothing else.
+    #[tactic(auto, unfolding(crate::specs::State::empty_ledger))]
+    pub fn empty() -> Ledger
+        ensures { result ≡ empty_ledger }
+    {
+        Ledger {
+            patient: 0,
+            clock: 0,
+            register: Register::empty(),
+            active: ActiveList::empty(),
+            tokens: TokenList::empty(),
+        }
     }
-}
 
-// A ledger from its parts, for one that was stored. Nothing is tested: of parts that no ledger of document 01 has, the answers are free.
-pub fn from_parts(
-    patient: u16,
-    clock: u32,
-    register: Register,
-    active: ActiveList,
-    tokens: TokenList,
-) -> Ledger
-    ensures { result ≡ ledger_from patient clock register active tokens }
-{
-    Ledger {
-        patient: patient,
-        clock: clock,
-        register: register,
-        active: active,
-        tokens: tokens,
+    // A ledger from its parts, for one that was stored. Nothing is tested: of parts that no ledger of document 01 has, the answers are free.
+    pub fn from_parts(
+        patient: u16,
+        clock: u32,
+        register: Register,
+        active: ActiveList,
+        tokens: TokenList,
+    ) -> Ledger
+        ensures { result ≡ ledger_from patient clock register active tokens }
+    {
+        Ledger {
+            patient,
+            clock,
+            register,
+            active,
+            tokens,
+        }
+    }
+
+    pub fn patient(&self) -> u16
+        ensures { result ≡ self.now.patient }
+    {
+        self.patient
+    }
+
+    pub fn clock(&self) -> u32
+        ensures { result ≡ self.now.clock }
+    {
+        self.clock
+    }
+
+    pub fn register(&self) -> &Register
+        ensures { result.now ≡ self.now.register }
+    {
+        &self.register
+    }
+
+    pub fn active(&self) -> &ActiveList
+        ensures { result.now ≡ self.now.active }
+    {
+        &self.active
+    }
+
+    pub fn tokens(&self) -> &TokenList
+        ensures { result.now ≡ self.now.tokens }
+    {
+        &self.tokens
     }
 }

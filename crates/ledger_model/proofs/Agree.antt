@@ -19,7 +19,7 @@ use Rattle.directive.specs.declared.Directive.{Directive}
 use Rattle.drafts.specs.declared.Draft.{Draft}
 use Rattle.drafts.specs.Form.{draft_size, draft_of, directive_of}
 use Rattle.directive.specs.Matching.{number_of}
-use Rattle.drafts.proofs.FormLaws.{subject_number_lem, formed, Widths, bytes_wide}
+use Rattle.drafts.proofs.FormLaws.{number_of_named, formed, Widths, bytes_wide}
 use Rattle.validation_meaning.specs.Requests.{persons}
 use Rattle.validation_meaning.specs.Meaning.{conflict}
 use Rattle.validation_meaning.specs.Search.{conflict_found, SubjectIn, Fit}
@@ -49,7 +49,7 @@ unfolding directive_of
 draft_fit c s wide e =
     record {
       subject_in = subject_in c (directive_of s).subject
-          (rw (subject_number_lem s.subject_kind s.subject) wide.subject) (and_left _ _ e);
+          (rw (number_of_named (eqb s.subject_kind 1) s.subject) wide.subject) (and_left _ _ e);
       until_in = omega (arith, wide.until);
     }
 

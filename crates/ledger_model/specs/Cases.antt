@@ -2,6 +2,7 @@
 use Rattle.std.specs.Prelude.{ℕ, ◌≡◌, Bool, true, false}
 use mathlib.Core.List.{List, [], ◌∷◌, map, Memᴰ}
 use Rattle.register.specs.declared.Record.{Record}
+use Rattle.register.specs.Records.{reach_of}
 use Rattle.directive.specs.declared.Subject.{Subject}
 use Rattle.directive.specs.declared.Subject.TheVariants.{Person, Role}
 use Rattle.directive.specs.declared.Query.{Query}
@@ -76,7 +77,7 @@ drafting n effect who x reach ps from until =
       subject = who;
       subject_origins = 0xFFFF;
       «record» = x;
-      reach = reach;
+      reach = reach_of reach;
       origins = 0xFFFF;
       sensitivities = ps;
       kinds = 0xFF;

@@ -4,6 +4,7 @@ use mathlib.Core.Path.{◌≡◌, refl, sym, subst, ◌∙◌}
 use mathlib.Core.Bool.{true, false, ◌&&◌}
 use mathlib.Core.List.{List, [], ◌∷◌}
 use lib.Dec.{eqb}
+use Rattle.std.proofs.Common.{Option}
 use Rattle.sets.specs.declared.record_set.RecordSet.{RecordSet}
 use Rattle.sets.specs.RecordSets.{contains, record_set_of}
 use Rattle.sets.proofs.WordLaws.{words_ext}
@@ -25,12 +26,12 @@ use Rattle.card.specs.declared.ReadAnswer.TheVariants as Read
 use Rattle.card.specs.Answer.{read_answer}
 use Rattle.card.specs.Reading.{reading}
 use Rattle.program_access.specs.declared.Shown.{Shown}
-use Rattle.program_access.specs.Table.{OptionalDraft, ledger_text, draft_accepted}
+use Rattle.program_access.specs.Table.{ledger_text, draft_accepted}
 use Rattle.program_access.specs.Promises.{Prints, Shows}
 
 -- what is shown of the ledger is shown of a card that gives it
 pub card_read :
-    (card : List ℕ) (d : OptionalDraft) (w : Requester) {shown : Shown} {out : List ℕ} {m : Model} →
+    (card : List ℕ) (d : Option (List ℕ)) (w : Requester) {shown : Shown} {out : List ℕ} {m : Model} →
     accepted (reading card).answer ≡ true → m ≡ (reading card).model →
     Prints (ledger_text m d w) (draft_accepted m d && requester_passes m.register w) shown out → Shows card d w shown out
 card_read card d w {shown} {out} e same p =

@@ -17,6 +17,7 @@ use ledger::Ledger;
 use ledger::answer::{CommitAnswer, DirectiveRefusal};
 use ledger_preview::PreviewAnswer;
 use sets::record_set::RecordSet;
+use streams::Status;
 
 // The number of the question that a draft misses, 0 for none.
 fn question_of(a: CommitAnswer) -> u64
@@ -86,7 +87,7 @@ pub fn put_draft(l: Ledger, draft: &[u8], w: Requester, out: &mut [u8]) -> Shown
     if question_of(answer) != 0 {
         return Shown {
             size: put_draft_refusal(out, answer),
-            is_table: false,
+            status: Status::Refused,
         };
     }
     let previewed = ledger_preview::preview(l, draft, w);

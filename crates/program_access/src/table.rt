@@ -15,6 +15,7 @@ use crate::Shown;
 use directive::{Query, Requester};
 use ledger::Ledger;
 use sets::record_set::RecordSet;
+use streams::Status;
 
 // The decision on the ledger after the change, where there is one.
 fn put_change(out: &mut [u8], at: usize, is_change: bool, after: Ledger, q: Query) -> usize
@@ -95,12 +96,12 @@ pub fn put_requester(
     if !ledger::decision::requester_in_range(g, w.role, w.origin, w.purpose) {
         return Shown {
             size: crate::words::put_numbered(out, 0, b"requester refused: question ", 17),
-            is_table: false,
+            status: Status::Refused,
         };
     }
     let end = put_table(l, after, records, w, out);
     Shown {
         size: put_count(out, end, is_counted, records),
-        is_table: true,
+        status: Status::Success,
     }
 }

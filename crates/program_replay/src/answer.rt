@@ -31,7 +31,7 @@ fn put_answer(out: &mut [u8], a: EntryAnswer, lent: &[u8]) -> Shown
     let line = replay_entries::line::line_of(a);
     let numbers = line.numbers;
     let n = sets::bounds::least(line.bytes, lent.len());
-    let size = text::line::put_line(out, numbers, line.count, &lent[..n]);
+    let size = text::line::put_line(out, &numbers[..line.count], &lent[..n]);
     Shown {
         size: size,
         goes_on: 0 < line.count,
@@ -43,7 +43,7 @@ pub fn put_malformed(out: &mut [u8]) -> usize
     requires { 85 ≤ length out.old }
     ensures { StartsWith out.new result (line_text [] []) }
 {
-    text::line::put_line(out, [0u64; 4], 0, b"")
+    text::line::put_line(out, &[], b"")
 }
 
 pub fn answer_card(card: &[u8], out: &mut [u8]) -> Turn
@@ -52,8 +52,8 @@ pub fn answer_card(card: &[u8], out: &mut [u8]) -> Turn
 {
     let r = card_reading::read::read(card);
     let line = card_reading::check::line_of(r);
-    let numbers = [line.refusal, line.records as u64, line.directives as u64, 0];
-    let size = text::line::put_line(out, numbers, 3, &card[..0]);
+    let numbers = [line.refusal, line.records as u64, line.directives as u64];
+    let size = text::line::put_line(out, &numbers, b"");
     let l = r.ledger;
     Turn {
         ledger: l,

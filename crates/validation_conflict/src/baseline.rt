@@ -7,64 +7,42 @@ ghost use Rattle.active.specs.Active.{active_in};
 ghost use Rattle.validation_meaning.specs.Meaning.{has_baseline, breaks_baseline};
 ghost use Rattle.validation_meaning.specs.Search.{breaks_for_found, breaks_baseline_found, Fit};
 
+use crate::minutes::first_minute;
 use active::Active;
 use directive::Subject;
 use register::Register;
 
 // Whether the directive selects a record of which the person has the baseline.
-fn selects_own(g: Register, patient: u16, a: Active, person: u16) -> bool
-    requires { a ≡ active_in (contents g).records a.directive }
-    ensures { result ≡ some_of (length (contents g).records) (selects (contents g).records a.directive) (has_baseline (contents g) patient person) }
+fn selects_own(register: &Register, patient: u16, a: &Active, person: u16) -> bool
+    requires { a.now ≡ active_in (contents register.now).records a.now.directive }
+    ensures { result ≡ some_of (length (contents register.now).records) (selects (contents register.now).records a.now.directive) (has_baseline (contents register.now) patient person) }
 {
-    let records = g.records;
-    let chosen = a.selected;
-    for x in 0..128usize {
-        if sets::record_set::member(chosen, x) {
-            let r = records[x];
-            if r.author == person {
-                return true;
-            }
-            if patient == person {
-                return true;
-            }
-        }
-    }
-    false
+    register.records().iter().enumerate().any(|(x, record)| a.selected.contains(x)
+        && (record.author == person || patient == person))
 }
 
-// Whether a deny that names the person matches some request of theirs that the baseline permits.
-fn breaks_for(g: Register, patient: u16, clock: u32, a: Active, s: Subject) -> bool
-    requires { a ≡ active_in (contents g).records a.directive }
-    ensures { result ≡ breaks_for_found (contents g) patient clock a.directive s }
+// Whether a deny that names a person matches some request of theirs that the baseline permits.
+#[tactic(auto, using(crate::proofs::BaselineTests::some_origin, crate::proofs::BaselineTests::some_purpose))]
+fn breaks_for(register: &Register, patient: u16, clock: u32, a: &Active) -> bool
+    requires { a.now ≡ active_in (contents register.now).records a.now.directive }
+    ensures { result ≡ breaks_for_found (contents register.now) patient clock a.now.directive a.now.directive.subject }
 {
-    let d = a.directive;
-    match s {
-        Subject::Person(n) => {
-            if d.until <= crate::minutes::start(clock, d) {
-                return false;
-            }
-            if d.subject_origins == 0 {
-                return false;
-            }
-            if d.purposes % 2048 == 0 {
-                return false;
-            }
-            selects_own(g, patient, a, n)
-        }
-        Subject::Role(_) => false,
-    }
+    let d = &a.directive;
+    let Subject::Person(person) = d.subject else {
+        return false;
+    };
+    first_minute(d, clock) < d.until
+        && d.subject_origins != 0
+        && d.purposes % 2048 != 0
+        && selects_own(register, patient, a, person)
 }
 
 // Whether the directive breaks the baseline.
-pub fn breaks_baseline(g: Register, patient: u16, clock: u32, a: Active) -> bool
-    requires { a ≡ active_in (contents g).records a.directive }
-    ensures value { result ≡ breaks_baseline_found (contents g) patient clock a.directive }
-    ensures value_2 { 0 < length (contents g).roles → Fit (contents g) a.directive → result ≡ breaks_baseline (contents g) patient clock a.directive }
+#[tactic(auto, using(validation_meaning::proofs::Exact::baseline_exact), unfolding(validation_meaning::specs::Search::breaks_baseline_found))]
+pub fn breaks_baseline(register: &Register, patient: u16, clock: u32, a: &Active) -> bool
+    requires { a.now ≡ active_in (contents register.now).records a.now.directive }
+    ensures searched { result ≡ breaks_baseline_found (contents register.now) patient clock a.now.directive }
+    ensures meant { 0 < length (contents register.now).roles → Fit (contents register.now) a.now.directive → result ≡ breaks_baseline (contents register.now) patient clock a.now.directive }
 {
-    let d = a.directive;
-    if d.permit {
-        return false;
-    }
-    let s = d.subject;
-    breaks_for(g, patient, clock, a, s)
+    !a.directive.permit && breaks_for(register, patient, clock, a)
 }

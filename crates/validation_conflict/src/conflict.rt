@@ -1,5 +1,5 @@
 // Conflict: two directives of opposite effect that match a request in common.
-ghost use Rattle.std.specs.Prelude.{◌≡◌, List, ◌<◌, ◌≤◌, length, take};
+ghost use Rattle.std.specs.Prelude.{◌≡◌, List, ◌<◌, ◌≤◌, length};
 ghost use Rattle.sets.specs.Quantifiers.{keep};
 ghost use Rattle.register.specs.declared.Record.{Record as Held};
 ghost use Rattle.register.specs.Register.{record_places, holding};
@@ -10,82 +10,47 @@ ghost use Rattle.validation_meaning.specs.Search.{subjects_meet, conflict_found,
 ghost use Rattle.validation_meaning.specs.Active.{AllFit};
 ghost use Rattle.validation_conflict.specs.Given.{Given};
 
+use crate::minutes::first_minute;
 use active::{Active, ActiveList};
 use directive::Subject;
-use directive::lowest::Best;
+use directive::lowest::{self, Best};
+use register::roles;
+use sets::bits;
 
 // Whether some person in some role is covered by both subjects.
-fn subjects_meet(parents: &[u8; register::ROLES], count: usize, s: Subject, t: Subject) -> bool
-    ensures { result ≡ subjects_meet (take count parents.now) s t }
+fn subjects_meet(parents: &[u8], s: Subject, t: Subject) -> bool
+    ensures { result ≡ subjects_meet parents.now s t }
 {
-    match s {
-        Subject::Person(n) => match t {
-            Subject::Person(k) => n == k,
-            Subject::Role(_) => true,
-        },
-        Subject::Role(n) => match t {
-            Subject::Person(_) => true,
-            Subject::Role(k) => register::roles::meet(parents, count, n, k),
-        },
+    match (s, t) {
+        (Subject::Person(n), Subject::Person(k)) => n == k,
+        (Subject::Role(n), Subject::Role(k)) => roles::meet(parents, n, k),
+        (Subject::Person(_), Subject::Role(_)) | (Subject::Role(_), Subject::Person(_)) => true,
     }
 }
 
 // Whether a and e, each with what it selects, are of opposite effect and overlap in each dimension.
-fn conflicts(
-    parents: &[u8; register::ROLES],
-    count: usize,
-    clock: u32,
-    a: Active,
-    e: Active,
-) -> bool
-    ensures { (rs : List Held) → length rs ≤ record_places → a ≡ active_in rs a.directive → e ≡ active_in rs e.directive → result ≡ conflict_found (holding (take count parents.now) rs) clock a.directive e.directive }
+#[tactic(auto, using(crate::proofs::ConflictTests::conflict_tested))]
+fn conflicts(parents: &[u8], clock: u32, a: &Active, e: &Active) -> bool
+    ensures { (rs : List Held) → length rs ≤ record_places → a.now ≡ active_in rs a.now.directive → e.now ≡ active_in rs e.now.directive → result ≡ conflict_found (holding parents.now rs) clock a.now.directive e.now.directive }
 {
-    let d = a.directive;
-    let f = e.directive;
-    if d.permit == f.permit {
-        return false;
-    }
-    let from = crate::minutes::latest(
-        crate::minutes::start(clock, d),
-        crate::minutes::start(clock, f),
-    );
-    let until = crate::minutes::earliest(d.until, f.until);
-    if until <= from {
-        return false;
-    }
-    if !sets::bits::meet(d.subject_origins, f.subject_origins) {
-        return false;
-    }
-    if !sets::bits::meet(d.purposes % 2048, f.purposes) {
-        return false;
-    }
-    let s = d.subject;
-    let t = f.subject;
-    if !subjects_meet(parents, count, s, t) {
-        return false;
-    }
-    let chosen = a.selected;
-    let other = e.selected;
-    sets::record_set::intersects(chosen, other)
+    let d = &a.directive;
+    let f = &e.directive;
+    d.permit != f.permit
+        && first_minute(d, clock).max(first_minute(f, clock)) < d.until.min(f.until)
+        && bits::meet(d.subject_origins, f.subject_origins)
+        && bits::meet(d.purposes % 2048, f.purposes)
+        && subjects_meet(parents, d.subject, f.subject)
+        && a.selected.intersects(e.selected)
 }
 
 // The lowest of the active directives that a conflicts with.
-pub fn lowest_conflict(
-    parents: &[u8; register::ROLES],
-    count: usize,
-    clock: u32,
-    a: Active,
-    l: ActiveList,
-) -> Best
-    ensures value { (rs : List Held) → Given rs a l → result ≡ best_of (keep (conflict_found (holding (take count parents.now) rs) clock a.directive) (directives_of l)) }
-    ensures value_2 { (rs : List Held) → Given rs a l → 0 < length (take count parents.now) → Fit (holding (take count parents.now) rs) a.directive → AllFit (holding (take count parents.now) rs) (directives_of l) → result ≡ best_of (keep (conflict (holding (take count parents.now) rs) clock a.directive) (directives_of l)) }
+pub fn lowest_conflict(parents: &[u8], clock: u32, a: &Active, list: &ActiveList) -> Option<Best>
+    ensures searched { (rs : List Held) → Given rs a.now list.now → result ≡ best_of (keep (conflict_found (holding parents.now rs) clock a.now.directive) (directives_of list.now)) }
+    ensures meant { (rs : List Held) → Given rs a.now list.now → 0 < length parents.now → Fit (holding parents.now rs) a.now.directive → AllFit (holding parents.now rs) (directives_of list.now) → result ≡ best_of (keep (conflict (holding parents.now rs) clock a.now.directive) (directives_of list.now)) }
 {
-    let mut best = directive::lowest::nothing();
-    for i in 0..active::size(l) {
-        let e = l.entries[i];
-        let d = e.directive;
-        let met = conflicts(parents, count, clock, a, e);
-        best = directive::lowest::lower_where(best, d, met);
+    let mut best = None;
+    for e in list.as_slice() {
+        best = lowest::lower_where(best, &e.directive, conflicts(parents, clock, a, e));
     }
     best
 }

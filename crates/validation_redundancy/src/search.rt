@@ -1,8 +1,8 @@
 // Redundancy: every request that a directive matches is matched by active ones of its effect, several together if need be.
-ghost use Rattle.std.specs.Prelude.{◌≡◌, ◌&&◌, not, List, ◌≤◌, take, nat_eq};
+ghost use Rattle.std.specs.Prelude.{◌≡◌, ◌&&◌, not, List, ◌≤◌, length, nat_eq};
 ghost use Rattle.std.specs.Int.Bits.{bit_and};
 ghost use Rattle.register.specs.declared.Record.{Record as Held};
-ghost use Rattle.register.specs.Register.{holding};
+ghost use Rattle.register.specs.Register.{role_places, holding};
 ghost use Rattle.active.specs.Active.{directives_of};
 ghost use Rattle.validation_meaning.specs.Meaning.{redundant};
 ghost use Rattle.validation_meaning.specs.Search.{redundant_found, Fit};
@@ -26,10 +26,7 @@ struct Extent {
 fn known(done: u32, mask: u32) -> bool
     ensures { result ≡ not (nat_eq done 0) && nat_eq (bit_and mask done) done }
 {
-    if done == 0 {
-        return false;
-    }
-    mask & done == done
+    done != 0 && mask & done == done
 }
 
 // Whether no request is left uncovered: the search is left at the first that is. At each level a mask of the directives that
@@ -53,7 +50,7 @@ fn all_covered<'a>(
     let mut covered = true;
     let mut done_at_item: u32 = 0;
     'item: for x in 0..128usize {
-        if !sets::record_set::member(records, x) {
+        if !records.contains(x) {
             continue 'item;
         }
         let a = record_column(low, high, x);
@@ -105,30 +102,23 @@ fn all_covered<'a>(
 }
 
 // Whether the directive is redundant beside the active ones.
-pub fn is_redundant(
-    parents: &[u8; register::ROLES],
-    count: usize,
-    clock: u32,
-    a: Active,
-    l: ActiveList,
-) -> bool
-    ensures value { (rs : List Held) → Given rs a l → result ≡ redundant_found (holding (take count parents.now) rs) clock a.directive (directives_of l) }
-    ensures value_2 { (rs : List Held) → Given rs a l → Fit (holding (take count parents.now) rs) a.directive → result ≡ redundant (holding (take count parents.now) rs) clock a.directive (directives_of l) }
+pub fn is_redundant(parents: &[u8], clock: u32, a: &Active, list: &ActiveList) -> bool
+    requires { length parents.now ≤ role_places }
+    ensures searched { (rs : List Held) → Given rs a.now list.now → result ≡ redundant_found (holding parents.now rs) clock a.now.directive (directives_of list.now) }
+    ensures meant { (rs : List Held) → Given rs a.now list.now → Fit (holding parents.now rs) a.now.directive → result ≡ redundant (holding parents.now rs) clock a.now.directive (directives_of list.now) }
 {
-    let d = a.directive;
-    let s = d.subject;
-    let records = a.selected;
+    let d = &a.directive;
     let extent = Extent {
-        records: records,
+        records: a.selected,
         origins: d.subject_origins,
         purposes: d.purposes,
-        roles: standing_roles(parents, count, s, s),
+        roles: standing_roles(parents, d.subject, d.subject),
     };
-    let rows = rows_of(parents, count, d, l);
+    let rows = rows_of(parents, d, list);
     let by_origin = columns(&rows.origins, extent.origins);
     let by_purpose = columns(&rows.purposes, extent.purposes);
     let by_role = columns(&rows.roles, extent.roles);
-    let minutes = minutes_of(clock, d, &rows.from, &rows.until, active::size(l));
+    let minutes = minutes_of(clock, d, &rows.from, &rows.until, list.as_slice().len());
     all_covered(
         extent,
         &rows.low,

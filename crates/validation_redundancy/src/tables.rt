@@ -1,10 +1,10 @@
 // The tables of the search: the active directives' sets as rows of numbers, and the masks of those that have a bit.
-ghost use Rattle.std.specs.Prelude.{◌≡◌, ◌&&◌, List, ◌∷◌, ℕ, ◌*◌, ◌^◌, ◌<◌, ◌≤◌, length, take, slice_index_or, nat_lt};
+ghost use Rattle.std.specs.Prelude.{◌≡◌, ◌&&◌, List, ◌∷◌, ℕ, ◌*◌, ◌^◌, ◌<◌, ◌≤◌, length, slice_index_or, nat_lt};
 ghost use Rattle.sets.specs.Quantifiers.{pick, one_if};
 ghost use Rattle.sets.specs.Bits.{bit, set_of};
 ghost use Rattle.sets.specs.RecordSets.{record_set_of};
 ghost use Rattle.register.specs.declared.Record.{Record as Held};
-ghost use Rattle.register.specs.Register.{record_places, holding};
+ghost use Rattle.register.specs.Register.{role_places, record_places, holding};
 ghost use Rattle.directive.specs.Places.{active_places};
 ghost use Rattle.directive.specs.Selection.{selects};
 ghost use Rattle.active.specs.Active.{directives_of, active_in, ActiveInvariant};
@@ -14,7 +14,9 @@ ghost use Rattle.validation_redundancy.specs.Masks.{role_row, column, record_col
 
 use active::{Active, ActiveList};
 use directive::{Directive, Subject};
+use register::{ROLES, roles};
 use sets::record_set::RecordSet;
+use validation_conflict::minutes;
 
 // The rows of the active directives, one number each.
 #[derive(Clone, Copy)]
@@ -28,63 +30,51 @@ pub struct Rows {
     pub until: [u32; active::PLACES],
 }
 
-fn wide(x: u16) -> u64
-    ensures { result ≡ x }
+// The roles in which the subject t covers the person who stands for s.
+pub fn standing_roles(parents: &[u8], s: Subject, t: Subject) -> u16
+    ensures { result ≡ set_of role_places (λ k. nat_lt k (length parents.now) && stands_for parents.now s t k) }
 {
-    x as u64
-}
-
-// The roles in which the subject t covers the person who stands for s. There are at most 16 roles.
-pub fn standing_roles(parents: &[u8; register::ROLES], count: usize, s: Subject, t: Subject) -> u16
-    ensures value { result ≡ set_of 16 (λ k. nat_lt k (length (take count parents.now)) && stands_for (take count parents.now) s t k) }
-    ensures parents_len_bound { length (take count parents.now) ≤ 16 }
-{
-    let roles = register::roles::size(parents, count);
     match t {
+        Subject::Role(k) => roles::covered_set(parents, k),
         Subject::Person(k) => match s {
-            Subject::Person(n) => if k == n { every_role(roles) } else { 0 },
-            Subject::Role(_) => 0,
+            Subject::Person(n) if n == k => every_role(parents.len()),
+            _ => 0,
         },
-        Subject::Role(k) => register::roles::covered_set(parents, count, k),
     }
 }
 
 // The first n roles, as a set.
 fn every_role(n: usize) -> u16
-    ensures { result ≡ set_of 16 (λ k. nat_lt k n) }
+    ensures { result ≡ set_of role_places (λ k. nat_lt k n) }
 {
     let mut set: u16 = 0;
-    for q in 0..16u16 {
-        if n <= q as usize {
-            return set;
-        }
-        set = set + (1 << q);
+    for q in 0..n.min(ROLES) as u16 {
+        set += 1 << q;
     }
     set
 }
 
 // The roles in which e covers the person who stands for d's subject.
-fn role_row(parents: &[u8; register::ROLES], count: usize, d: Directive, e: Directive) -> u64
-    ensures { result ≡ role_row (take count parents.now) d e }
+fn role_row(parents: &[u8], d: &Directive, e: &Directive) -> u64
+    ensures { result ≡ role_row parents.now d.now e.now }
 {
-    let s = d.subject;
-    let t = e.subject;
-    wide(standing_roles(parents, count, s, t))
+    u64::from(standing_roles(parents, d.subject, e.subject))
 }
 
 // The records that an active directive selects, if it counts.
-fn record_row(counts: bool, a: Active) -> RecordSet
-    ensures { (rs : List Held) → a ≡ active_in rs a.directive → result ≡ record_set_of (λ x. counts && selects rs a.directive x) }
+fn record_row(counts: bool, a: &Active) -> RecordSet
+    ensures { (rs : List Held) → a.now ≡ active_in rs a.now.directive → result ≡ record_set_of (λ x. counts && selects rs a.now.directive x) }
 {
     if counts {
-        return a.selected;
+        a.selected
+    } else {
+        RecordSet::empty()
     }
-    sets::record_set::empty()
 }
 
 // The rows of the active directives for the draft d; those of its effect count.
-pub fn rows_of(parents: &[u8; register::ROLES], count: usize, d: Directive, l: ActiveList) -> Rows
-    ensures { (rs : List Held) → ActiveInvariant rs l → RowsOf (holding (take count parents.now) rs) (same_effect d) d (directives_of l) (length (directives_of l)) result }
+pub fn rows_of(parents: &[u8], d: &Directive, list: &ActiveList) -> Rows
+    ensures { (rs : List Held) → ActiveInvariant rs list.now → RowsOf (holding parents.now rs) (same_effect d.now) d.now (directives_of list.now) (length (directives_of list.now)) result }
 {
     let none = [0u64; active::PLACES];
     let never = [0u32; active::PLACES];
@@ -97,13 +87,12 @@ pub fn rows_of(parents: &[u8; register::ROLES], count: usize, d: Directive, l: A
         from: never,
         until: never,
     };
-    for i in 0..active::size(l) {
-        let a = l.entries[i];
-        let e = a.directive;
+    for (i, a) in list.as_slice().iter().enumerate() {
+        let e = &a.directive;
         let w = record_row(d.permit == e.permit, a);
-        rows.roles[i] = role_row(parents, count, d, e);
-        rows.origins[i] = wide(e.subject_origins);
-        rows.purposes[i] = wide(e.purposes);
+        rows.roles[i] = role_row(parents, d, e);
+        rows.origins[i] = u64::from(e.subject_origins);
+        rows.purposes[i] = u64::from(e.purposes);
         rows.low[i] = w.low;
         rows.high[i] = w.high;
         rows.from[i] = e.from;
@@ -167,11 +156,7 @@ fn minute_column(
 {
     let mut mask: u32 = 0;
     for i in 0..n {
-        mask = mask
-            + bit_at(
-                validation_conflict::minutes::within(from[i], until[i], minute),
-                i,
-            );
+        mask = mask + bit_at(minutes::within(from[i], until[i], minute), i);
     }
     mask
 }
@@ -197,20 +182,20 @@ fn boundary(first: u32, until: &[u32; active::PLACES], i: usize) -> u32
 // The masks for the draft d; the first n directives count.
 pub fn minutes_of<'a>(
     clock: u32,
-    d: Directive,
+    d: &Directive,
     from: &'a [u32; active::PLACES],
     until: &'a [u32; active::PLACES],
     n: usize,
 ) -> Minutes
     requires { n ≤ active_places }
-    ensures { MinutesOf (start clock d) d.until from.now until.now n result }
+    ensures { MinutesOf (start clock d.now) d.now.until from.now until.now n result }
 {
-    let first = validation_conflict::minutes::start(clock, d);
+    let first = minutes::first_minute(d, clock);
     let mut masks = [0u32; 33];
     let mut count: usize = 0;
     for i in 0..n + 1 {
         let minute = boundary(first, until, i);
-        if validation_conflict::minutes::within(first, d.until, minute) {
+        if minutes::within(first, d.until, minute) {
             masks[count] = minute_column(from, until, n, minute);
             count = count + 1;
         }

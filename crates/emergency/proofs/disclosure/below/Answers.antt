@@ -24,5 +24,5 @@ returns c k h =
       | no l ↦
           let g : 64 ≤ k = omega arith in
           contains_high _ k g h ∙ c.low_bits-2.ensures (k - 64) (omega arith)
-          ∙ rw (c.least.ensures, past k args.n g, contains_high args.w k g h)
+          ∙ rw (c.min.ensures, past k args.n g, contains_high args.w k g h)
     ]

@@ -13,7 +13,5 @@ opens w records scope k = shares 16 (record_at records (64 * w + k)).labels scop
 
 abbrev pub invariant-loop-i : goal.invariant-loop-i
 invariant-loop-i l =
-    HasHighest 64 (opens 0 l.records l.scope) l.low l.i × HasHighest 64 (opens 1 l.records l.scope) l.high l.i
-
-abbrev pub decreases-loop-i : goal.decreases-loop-i
-decreases-loop-i l = 64 - l.i
+    HasHighest 64 (opens 0 l.register.records l.scope) l.low (64 - l.i)
+    × HasHighest 64 (opens 1 l.register.records l.scope) l.high (64 - l.i)

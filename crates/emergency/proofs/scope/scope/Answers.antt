@@ -1,30 +1,33 @@
 -- `scope::scope`: after s turns the set has the labels that some state below s opens.
-use mathlib.Core.Path.{◌≡◌, ◌∙◌}
+use mathlib.Core.Path.{◌≡◌}
+use mathlib.Core.Bool.{or-false}
 use native.Mathlib.Numerals.{add-one}
 use native.Mathlib.Omega.{arith}
 use borrow.Author.Rules.{rules}
+use borrow.Author.Tests.{eq-eqb, ne_eqb}
 use Rattle.sets.specs.Quantifiers.{some_below}
-use Rattle.sets.proofs.BitLaws.{bit_zero, set_ext}
+use Rattle.sets.proofs.BitLaws.{bit_zero, bit_of_or, set_ext}
 use Rattle.emergency.specs.Emergency.{scope}
+use Rattle.emergency.proofs.scope.scope.Goals.{then-states-s-eq1, else-states-s-eq1}
 use Rattle.emergency.proofs.scope.scope.Goals as goal
 
 pub loop-s-init : goal.loop-s-init
 unfolding some_below
-loop-s-init c = record { in_table = search rules; wide = search rules; has = bit_zero }
+loop-s-init c = bit_zero
 
 pub loop-s-preserved : goal.loop-s-preserved
 unfolding some_below
-loop-s-preserved c =
-    let now = c.loop-s in
-    record {
-      in_table = search rules;
-      wide = search rules;
-      has = λ k. c.join-labels.ensures k ∙ rw (add-one now.s, now.invariant.has k, c.opened.ensures k);
-    }
+loop-s-preserved c k =
+    elim c.if-states-s-eq1.branch [
+      | then-states-s-eq1 w ↦
+          rw (w.labels-is, add-one c.loop-s.s, ← (c.loop-s.invariant k), eq-eqb _ _ w.if-states-s-eq1.true)
+          (bit_of_or k c.loop-s.labels _)
+      | else-states-s-eq1 w ↦
+          rw (w.labels-is, add-one c.loop-s.s, ← (c.loop-s.invariant k), ne_eqb _ _ w.if-states-s-eq1.false, or-false)
+    ]
 
 pub returns : goal.returns
 unfolding scope
 returns c =
-    let now = c.loop-s in
-    let e : now.s ≡ 8 = omega arith in
-    set_ext 16 now.labels _ now.invariant.wide (λ k _. rw e at (now.invariant.has k))
+    let e : c.loop-s.s ≡ 8 = omega arith in
+    set_ext 16 c.loop-s.labels _ (search rules) (λ k _. rw e at (c.loop-s.invariant k))

@@ -14,7 +14,7 @@ pub returns-then-question_of-ne0 : goal.returns-then-question_of-ne0
 returns-then-question_of-ne0 c =
     let gives = c.commit-tried.ensures c.requires.0 in
     let no = ap accepted (sym gives.answer) ∙ commit_accepted c.commit-tried.result.answer ∙ ne_eqb _ 0 (λ e. c.if-question_of-ne0.true (c.question_of.ensures ∙ e)) in
-    record { text = rw no (rw gives.answer at c.put_draft_refusal.ensures); table = rw no }
+    record { text = rw no (rw gives.answer at c.put_draft_refusal.ensures); status = rw no }
 
 -- a commit accepts the draft
 accepts : (c : Else-question_of-ne0) → accepted (committed (view c.args.l) c.args.draft.now).answer ≡ true

@@ -10,7 +10,7 @@ unfolding requester_refused_word
 returns-then-not-requester_in_range c =
     let asked = rw c.register_of-g.ensures at c.requester_in_range.ensures in
     let outside = sym asked ∙ c.if-not-requester_in_range.true in
-    record { text = rw outside (begins c.put_numbered.ensures.puts (search rules)).1; table = rw outside }
+    record { text = rw outside (begins c.put_numbered.ensures.puts (search rules)).1; status = rw outside }
 
 pub put_table-end-requires : goal.put_table-end-requires
 put_table-end-requires c =
@@ -24,4 +24,4 @@ returns c =
     let within = sym asked ∙ c.if-not-requester_in_range.false in
     let changes = c.requires.has_changes within in
     let all = puts_more c.put_table-end.ensures.puts (rw changes at c.put_count.ensures.puts) in
-    record { text = rw within (begins all (search rules)).1; table = rw within }
+    record { text = rw within (begins all (search rules)).1; status = rw within }

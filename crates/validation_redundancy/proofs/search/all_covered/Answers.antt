@@ -9,9 +9,9 @@ use Rattle.validation_redundancy.proofs.search.all_covered.Goals as goal
 pub item-init : goal.item-init
 item-init c = passed_none refl
 
-pub item-preserved-then-not-member : goal.item-preserved-then-not-member
-item-preserved-then-not-member c =
-    passed_skip c.item.invariant c.item-test.true (failed c.member.ensures (ap not c.if-not-member.true))
+pub item-preserved-then-not-contains : goal.item-preserved-then-not-contains
+item-preserved-then-not-contains c =
+    passed_skip c.item.invariant c.item-test.true (failed c.contains.ensures (ap not c.if-not-contains.true))
 
 pub item-preserved-then-known : goal.item-preserved-then-known
 item-preserved-then-known c =
@@ -85,7 +85,7 @@ unfolding all_covered
 returns-then-e-minutes-eq0 c =
     sym
     (passed_not c.item.invariant c.item-test.true
-    (passed c.member.ensures (ap not c.if-not-member.false))
+    (passed c.contains.ensures (ap not c.if-not-contains.false))
     c.record_column-a.ensures
     (level_not _ _ _ _ _ c.origin.invariant c.origin-test.true (a_bit _ c.if-origins-o-eq0.false)
     (level_not _ _ _ _ _ c.purpose.invariant c.purpose-test.true (a_bit _ c.if-purposes-u-eq0.false)

@@ -24,5 +24,5 @@ loop-i-preserved c =
 
 pub returns : goal.returns
 returns c =
-    rw (sym c.start-first.ensures)
+    rw (sym c.first_minute-first.ensures)
     (masked_all c.loop-i.invariant c.requires c.loop-i-test.false)

@@ -1,0 +1,2 @@
+pub mod BaselineTests
+pub mod ConflictTests
