@@ -20,7 +20,7 @@ fn doubled(word: u64, b: bool) -> u64
     word * 2 + u64::from(b)
 }
 
-// The places whose labels share a bit with the scope, as a word.
+// The records whose labels share a bit with the scope, as a word.
 fn labelled(records: &[Record], scope: u16) -> u64
     requires { length records.now ≤ 64 }
     ensures { result ≡ set_of (length records.now) (λ x. shares 16 (record_at records.now x).labels scope) }

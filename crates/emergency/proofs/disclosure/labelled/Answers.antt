@@ -1,4 +1,4 @@
--- `disclosure::labelled`: after n turns the word has the n last of the places.
+-- `disclosure::labelled`: after n turns the word has those of the n last records.
 use Prim.Native.Nat.{ℕ, ◌-◌, ◌<◌}
 use mathlib.Core.Path.{◌≡◌, ap, ◌∙◌}
 use mathlib.Core.List.{List}
