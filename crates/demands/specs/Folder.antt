@@ -18,10 +18,9 @@ use Rattle.ledger_model.specs.Questions.{passes, questions_before, bytes_questio
 use Rattle.ledger_model.specs.Calls.{commit, advance, drafted}
 use Rattle.ledger_model.specs.Compatible.{compatible}
 use Rattle.ledger.specs.declared.Ledger.{Ledger}
-use Rattle.ledger.specs.declared.answer.CommitResult.{CommitResult}
-use Rattle.ledger.specs.declared.answer.DecideAnswer.{DecideAnswer}
+use Rattle.ledger.specs.Answer.{DecideAnswer}
 use Rattle.ledger.specs.State.{view}
-use Rattle.ledger.specs.Promises.{Commits, Decides}
+use Rattle.ledger.specs.Promises.{CommitResult, Commits, Decides}
 use Rattle.demands.specs.Runs.{Run, Reachable}
 use Rattle.demands.specs.Demands.{effect_and_basis, refused_with}
 
