@@ -1,14 +1,19 @@
 -- What each case of a preview's answer means, in the numbers and values of documents 01 and 02.
-use Rattle.std.specs.Prelude.{[], ◌∷◌}
+use Rattle.std.specs.Prelude.{[], ◌∷◌, Result, Ok, Err}
+use Rattle.emergency.specs.declared.Brief.{Brief}
 use Rattle.ledger_model.specs.Answer.{Answer, done, refused}
-use Rattle.ledger.specs.Answer.{directive_answer}
-use Rattle.ledger_preview.specs.declared.PreviewAnswer.{PreviewAnswer}
-use Rattle.ledger_preview.specs.declared.PreviewAnswer.TheVariants.{Changes, WrongLength, Refused, Redundant, RequesterOutOfRange}
+use Rattle.ledger.specs.Answer.{commit_refusal}
+use Rattle.ledger_preview.specs.declared.PreviewRefusal.{PreviewRefusal}
+use Rattle.ledger_preview.specs.declared.PreviewRefusal.TheVariants.{Commit, RequesterOutOfRange}
+
+abbrev pub PreviewAnswer : Type 0
+PreviewAnswer = Result Brief PreviewRefusal
+
+abbrev pub preview_refusal : PreviewRefusal → Answer
+preview_refusal (Commit r) = commit_refusal r
+preview_refusal RequesterOutOfRange = refused 17 []
 
 -- the two words and the count
 abbrev pub preview_answer : PreviewAnswer → Answer
-preview_answer (Changes records count) = done (records.low ∷ records.high ∷ count ∷ [])
-preview_answer WrongLength = refused 6 []
-preview_answer (Refused r) = directive_answer r
-preview_answer Redundant = refused 14 []
-preview_answer RequesterOutOfRange = refused 17 []
+preview_answer (Ok b) = done (b.records.low ∷ b.records.high ∷ b.count ∷ [])
+preview_answer (Err r) = preview_refusal r

@@ -8,9 +8,12 @@ use Rattle.ledger_model.specs.Preview.{compared_for, previewed}
 use Rattle.ledger.specs.declared.Ledger.{Ledger}
 use Rattle.ledger.specs.State.{view}
 use Rattle.ledger.specs.Invariant.{Invariant}
-use Rattle.ledger_preview.specs.declared.PreviewAnswer.{PreviewAnswer}
-use Rattle.ledger_preview.specs.declared.PreviewResult.{PreviewResult}
-use Rattle.ledger_preview.specs.Answer.{preview_answer}
+use Rattle.ledger.specs.Promises.{After}
+use Rattle.ledger_preview.specs.Answer.{PreviewAnswer, preview_answer}
+
+-- its answer, and the ledger that comes back
+abbrev pub PreviewResult : Type 0
+PreviewResult = After PreviewAnswer
 
 -- Preview of a draft's bytes s for the requester w: the model's answer, and "The ledger handed in comes back equal": the value
 -- itself, also past its counts.

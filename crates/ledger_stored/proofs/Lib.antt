@@ -1,2 +1,3 @@
-pub mod Filling
+pub mod Mapping
+pub mod Entries
 pub mod StoredLaws

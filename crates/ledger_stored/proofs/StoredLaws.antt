@@ -3,25 +3,37 @@ use mathlib.Core.Path.{◌≡◌, refl}
 use mathlib.Core.Bool.{Bool, true, false, not}
 use mathlib.Core.List.{List, [], ◌∷◌, map}
 use lib.Dec.{eqb}
+use Rattle.sets.specs.Quantifiers.{one_if}
+use Rattle.register.specs.declared.records.Reach.{Reach}
+use Rattle.register.specs.declared.records.Reach.TheVariants.{Itself, Children, Descendants, Folder}
+use Rattle.register.specs.Records.{reach_of, reach_number}
 use Rattle.directive.specs.declared.Subject.{Subject}
 use Rattle.directive.specs.declared.Subject.TheVariants.{Person, Role}
+use Rattle.directive.specs.Matching.{subject_named, is_role, number_of}
 use Rattle.active.specs.declared.Active.{Active}
 use Rattle.emergency.specs.declared.Token.{Token}
 use Rattle.ledger.specs.declared.Ledger.{Ledger}
-use Rattle.ledger_stored.specs.Stored.{byte_of, subject_of, kind_number, subject_number, directive_of, active_of, stored_active, token_of, stored_token, ledger_of, stored_of}
+use Rattle.ledger_stored.specs.Stored.{directive_of, active_of, stored_active, token_of, stored_token, ledger_of, stored_of}
 
-subject_back : (s : Subject) → subject_of (kind_number s) (subject_number s) ≡ s
-unfolding subject_of
+bit_back : (b : Bool) → not (eqb (one_if b) 0) ≡ b
+bit_back true = refl
+bit_back false = refl
+
+subject_back : (s : Subject) → subject_named (is_role s) (number_of s) ≡ s
 subject_back (Person n) = refl
 subject_back (Role n) = refl
 
-permit_back : (b : Bool) → not (eqb (byte_of b) 0) ≡ b
-permit_back true = refl
-permit_back false = refl
+reach_back : (r : Reach) → reach_of (reach_number r) ≡ r
+reach_back Itself = refl
+reach_back Children = refl
+reach_back Descendants = refl
+reach_back Folder = refl
 
 active_back : (a : Active) → active_of (stored_active a) ≡ a
 unfolding active_of directive_of stored_active
-active_back a = rw (permit_back a.directive.permit, subject_back a.directive.subject) refl
+active_back a =
+    let s = a.directive.subject in
+    rw (bit_back a.directive.permit, bit_back (is_role s), subject_back s, reach_back a.directive.reach) refl
 
 token_back : (k : Token) → token_of (stored_token k) ≡ k
 unfolding token_of stored_token

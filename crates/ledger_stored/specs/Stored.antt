@@ -1,8 +1,9 @@
 -- The ledger that a stored one stands for, and how a ledger is stored. No definition of document 01 rests on it.
-use Rattle.std.specs.Prelude.{ℕ, Bool, cond, not, List, map, nat_eq}
-use Rattle.directive.specs.declared.Subject.{Subject}
-use Rattle.directive.specs.declared.Subject.TheVariants.{Person, Role}
+use Rattle.std.specs.Prelude.{ℕ, not, List, map, nat_eq}
+use Rattle.sets.specs.Quantifiers.{one_if}
+use Rattle.register.specs.Records.{reach_number, reach_of}
 use Rattle.directive.specs.declared.Directive.{Directive}
+use Rattle.directive.specs.Matching.{subject_named, is_role, number_of}
 use Rattle.active.specs.declared.Active.{Active}
 use Rattle.active.specs.declared.ActiveList.{ActiveList}
 use Rattle.emergency.specs.declared.Token.{Token}
@@ -20,29 +21,16 @@ the_stamp = 0x4E6577656C730001
 abbrev pub the_size : ℕ
 the_size = 2928
 
-abbrev pub byte_of : Bool → ℕ
-byte_of b = cond b 1 0
-
-unfoldable pub subject_of : ℕ → ℕ → Subject
-subject_of kind number = cond (nat_eq kind 0) (Person number) (Role number)
-
-abbrev pub kind_number : Subject → ℕ
-kind_number (Person n) = 0
-kind_number (Role n) = 1
-
-abbrev pub subject_number : Subject → ℕ
-subject_number (Person n) = n
-subject_number (Role n) = n
-
+-- A kind other than 0 is a role's, an effect other than 0 is permit, and a reach past the last stands for the last.
 unfoldable pub directive_of : StoredActive → Directive
 directive_of t =
     record {
       number = t.number;
       permit = not (nat_eq t.permit 0);
-      subject = subject_of t.kind t.subject;
+      subject = subject_named (not (nat_eq t.kind 0)) t.subject;
       subject_origins = t.subject_origins;
       «record» = t.«record»;
-      reach = t.reach;
+      reach = reach_of t.reach;
       origins = t.origins;
       sensitivities = t.sensitivities;
       kinds = t.kinds;
@@ -62,15 +50,15 @@ stored_active a =
       from = a.directive.from;
       until = a.directive.until;
       number = a.directive.number;
-      subject = subject_number a.directive.subject;
+      subject = number_of a.directive.subject;
       subject_origins = a.directive.subject_origins;
       origins = a.directive.origins;
       sensitivities = a.directive.sensitivities;
       purposes = a.directive.purposes;
-      permit = byte_of a.directive.permit;
-      kind = kind_number a.directive.subject;
+      permit = one_if a.directive.permit;
+      kind = one_if (is_role a.directive.subject);
       «record» = a.directive.«record»;
-      reach = a.directive.reach;
+      reach = reach_number a.directive.reach;
       kinds = a.directive.kinds;
       unused_1 = 0;
       unused_2 = 0;

@@ -2,7 +2,7 @@
 // padding, so that no byte of it is left to chance.
 #![tactic(auto)]
 
-ghost use Rattle.std.specs.Prelude.{◌≡◌, List, map, ◌≤◌, length, take};
+ghost use Rattle.std.specs.Prelude.{◌≡◌, List, map, take, ◌≤◌, length};
 ghost use Rattle.sets.specs.Quantifiers.{keep};
 ghost use Rattle.register.specs.declared.Record.{Record as Held};
 ghost use Rattle.register.specs.Register.{record_places, holding};
@@ -10,16 +10,16 @@ ghost use Rattle.directive.specs.Matching.{matches};
 ghost use Rattle.directive.specs.Lowest.{best_of};
 ghost use Rattle.active.specs.Active.{directives_of, ActiveInvariant};
 ghost use Rattle.ledger.specs.Promises.{Decides};
-ghost use Rattle.ledger_stored.specs.Stored.{byte_of, subject_of, kind_number, subject_number, active_of, stored_active, token_of, stored_token, active_list, ledger_of, stored_of};
+ghost use Rattle.ledger_stored.specs.Stored.{active_of, stored_active, token_of, stored_token, active_list, ledger_of, stored_of};
 
 use active::{Active, ActiveList};
-use directive::lowest::Best;
+use directive::lowest::{self, Best};
 use directive::{Directive, Query, Request, Subject};
 use emergency::{Token, TokenList};
-use ledger::Ledger;
-use ledger::answer::DecideAnswer;
-use ledger::decision::Opening;
+use ledger::answer::{Decision, NotInRegister};
+use ledger::{Ledger, decision};
 use register::Register;
+use register::records::Reach;
 use sets::record_set::RecordSet;
 
 // What a stored ledger begins with: a name, and in the two lowest bytes the version of the layout.
@@ -54,6 +54,63 @@ pub struct StoredActive {
     high: u64,
 }
 
+impl From<StoredActive> for Active {
+    ghost from_gives = { λ stored a. a ≡ active_of stored };
+
+    #[tactic(auto, unfolding(crate::specs::Stored::active_of, crate::specs::Stored::directive_of))]
+    fn from(stored: StoredActive) -> Active {
+        Active {
+            directive: Directive {
+                number: stored.number,
+                permit: stored.permit != 0,
+                subject: Subject::named(stored.kind != 0, stored.subject),
+                subject_origins: stored.subject_origins,
+                record: stored.record,
+                reach: Reach::from_number(stored.reach),
+                origins: stored.origins,
+                sensitivities: stored.sensitivities,
+                kinds: stored.kinds,
+                purposes: stored.purposes,
+                from: stored.from,
+                until: stored.until,
+            },
+            selected: RecordSet {
+                low: stored.low,
+                high: stored.high,
+            },
+        }
+    }
+}
+
+impl From<Active> for StoredActive {
+    ghost from_gives = { λ a stored. stored ≡ stored_active a };
+
+    #[tactic(auto, unfolding(crate::specs::Stored::stored_active))]
+    fn from(a: Active) -> StoredActive {
+        let d = a.directive;
+        StoredActive {
+            number: d.number,
+            permit: u8::from(d.permit),
+            unused_1: 0,
+            kind: u16::from(d.subject.is_role()),
+            subject: d.subject.number(),
+            subject_origins: d.subject_origins,
+            record: d.record,
+            reach: d.reach.number(),
+            origins: d.origins,
+            sensitivities: d.sensitivities,
+            kinds: d.kinds,
+            unused_2: 0,
+            purposes: d.purposes,
+            from: d.from,
+            until: d.until,
+            unused_3: 0,
+            low: a.selected.low,
+            high: a.selected.high,
+        }
+    }
+}
+
 // A token; 12 bytes.
 #[repr(C)]
 #[derive(Clone, Copy)]
@@ -66,6 +123,36 @@ pub struct StoredToken {
     unused_2: u16,
 }
 
+impl From<StoredToken> for Token {
+    ghost from_gives = { λ stored k. k ≡ token_of stored };
+
+    #[tactic(auto, unfolding(crate::specs::Stored::token_of))]
+    fn from(stored: StoredToken) -> Token {
+        Token {
+            number: stored.number,
+            person: stored.person,
+            states: stored.states,
+            until: stored.until,
+        }
+    }
+}
+
+impl From<Token> for StoredToken {
+    ghost from_gives = { λ k stored. stored ≡ stored_token k };
+
+    #[tactic(auto, unfolding(crate::specs::Stored::stored_token))]
+    fn from(k: Token) -> StoredToken {
+        StoredToken {
+            until: k.until,
+            number: k.number,
+            person: k.person,
+            states: k.states,
+            unused_1: 0,
+            unused_2: 0,
+        }
+    }
+}
+
 #[repr(C)]
 #[derive(Clone, Copy)]
 pub struct StoredLedger {
@@ -74,255 +161,100 @@ pub struct StoredLedger {
     patient: u16,
     unused: u16,
     register: Register,
-    active: [StoredActive; 32],
+    active: [StoredActive; active::PLACES],
     active_count: usize,
-    tokens: [StoredToken; 4],
+    tokens: [StoredToken; emergency::PLACES],
     token_count: usize,
 }
 
-fn byte_of(b: bool) -> u8
-    ensures { result ≡ byte_of b }
-{
-    if b { 1 } else { 0 }
-}
-
-fn subject_of(kind: u16, number: u16) -> Subject
-    ensures { result ≡ subject_of kind number }
-{
-    if kind == 0 {
-        return Subject::Person(number);
-    }
-    Subject::Role(number)
-}
-
-fn kind_number(s: Subject) -> u16
-    ensures { result ≡ kind_number s }
-{
-    match s {
-        Subject::Person(_) => 0,
-        Subject::Role(_) => 1,
-    }
-}
-
-fn subject_number(s: Subject) -> u16
-    ensures { result ≡ subject_number s }
-{
-    match s {
-        Subject::Person(n) => n,
-        Subject::Role(n) => n,
-    }
-}
-
-fn active_of(t: StoredActive) -> Active
-    ensures { result ≡ active_of t }
-{
-    let subject = subject_of(t.kind, t.subject);
-    let d = Directive {
-        number: t.number,
-        permit: t.permit != 0,
-        subject: subject,
-        subject_origins: t.subject_origins,
-        record: t.record,
-        reach: t.reach,
-        origins: t.origins,
-        sensitivities: t.sensitivities,
-        kinds: t.kinds,
-        purposes: t.purposes,
-        from: t.from,
-        until: t.until,
-    };
-    let selected = RecordSet {
-        low: t.low,
-        high: t.high,
-    };
-    Active {
-        directive: d,
-        selected: selected,
-    }
-}
-
-fn stored_active(a: Active) -> StoredActive
-    ensures { result ≡ stored_active a }
-{
-    let d = a.directive;
-    let selected = a.selected;
-    let s = d.subject;
-    StoredActive {
-        number: d.number,
-        permit: byte_of(d.permit),
-        unused_1: 0,
-        kind: kind_number(s),
-        subject: subject_number(s),
-        subject_origins: d.subject_origins,
-        record: d.record,
-        reach: d.reach,
-        origins: d.origins,
-        sensitivities: d.sensitivities,
-        kinds: d.kinds,
-        unused_2: 0,
-        purposes: d.purposes,
-        from: d.from,
-        until: d.until,
-        unused_3: 0,
-        low: selected.low,
-        high: selected.high,
-    }
-}
-
-fn token_of(t: StoredToken) -> Token
-    ensures { result ≡ token_of t }
-{
-    Token {
-        number: t.number,
-        person: t.person,
-        states: t.states,
-        until: t.until,
-    }
-}
-
-fn stored_token(k: Token) -> StoredToken
-    ensures { result ≡ stored_token k }
-{
-    StoredToken {
-        until: k.until,
-        number: k.number,
-        person: k.person,
-        states: k.states,
-        unused_1: 0,
-        unused_2: 0,
-    }
-}
-
-fn actives_of(a: [StoredActive; 32]) -> [Active; 32]
-    ensures { result ≡ map active_of a }
-{
-    let first = a[0];
-    let filler = active_of(first);
-    let mut out = [filler; 32];
-    for i in 0..32usize {
-        let x = a[i];
-        out[i] = active_of(x);
-    }
-    out
-}
-
-fn stored_actives(a: [Active; 32]) -> [StoredActive; 32]
-    ensures { result ≡ map stored_active a }
-{
-    let first = a[0];
-    let filler = stored_active(first);
-    let mut out = [filler; 32];
-    for i in 0..32usize {
-        let x = a[i];
-        out[i] = stored_active(x);
-    }
-    out
-}
-
-fn tokens_of(a: [StoredToken; 4]) -> [Token; 4]
-    ensures { result ≡ map token_of a }
-{
-    let first = a[0];
-    let filler = token_of(first);
-    let mut out = [filler; 4];
-    for i in 0..4usize {
-        let x = a[i];
-        out[i] = token_of(x);
-    }
-    out
-}
-
-fn stored_tokens(a: [Token; 4]) -> [StoredToken; 4]
-    ensures { result ≡ map stored_token a }
-{
-    let first = a[0];
-    let filler = stored_token(first);
-    let mut out = [filler; 4];
-    for i in 0..4usize {
-        let x = a[i];
-        out[i] = stored_token(x);
-    }
-    out
-}
-
 // The ledger that a stored one stands for, whatever its numbers are.
-pub fn ledger_of(t: StoredLedger) -> Ledger
-    ensures { result ≡ ledger_of t }
+impl From<&StoredLedger> for Ledger {
+    ghost from_gives = { λ stored l. l ≡ ledger_of stored.now };
+
+    fn from(stored: &StoredLedger) -> Ledger {
+        let active = ActiveList {
+            entries: stored.active.map(Active::from),
+            count: stored.active_count,
+        };
+        let tokens = TokenList {
+            tokens: stored.tokens.map(Token::from),
+            count: stored.token_count,
+        };
+        Ledger::from_parts(
+            stored.patient,
+            stored.clock,
+            stored.register,
+            active,
+            tokens,
+        )
+    }
+}
+
+fn stored_actives(entries: [Active; active::PLACES]) -> [StoredActive; active::PLACES]
+    ensures { result ≡ map stored_active entries }
 {
-    let stored_active = t.active;
-    let entries = actives_of(stored_active);
-    let active = ActiveList {
-        entries: entries,
-        count: t.active_count,
-    };
-    let stored_tokens = t.tokens;
-    let held = tokens_of(stored_tokens);
-    let tokens = TokenList {
-        tokens: held,
-        count: t.token_count,
-    };
-    let register = t.register;
-    ledger::from_parts(t.patient, t.clock, register, active, tokens)
+    entries.map(StoredActive::from)
+}
+
+fn stored_tokens(tokens: [Token; emergency::PLACES]) -> [StoredToken; emergency::PLACES]
+    ensures { result ≡ map stored_token tokens }
+{
+    tokens.map(StoredToken::from)
 }
 
 // The ledger, stored.
-pub fn stored_of(l: Ledger) -> StoredLedger
-    ensures { result ≡ stored_of l }
-{
-    let list = ledger::views::active_of(l);
-    let entries = list.entries;
-    let active = stored_actives(entries);
-    let held = ledger::views::tokens_of(l);
-    let tokens = held.tokens;
-    let kept = stored_tokens(tokens);
-    let register = ledger::views::register_of(l);
-    StoredLedger {
-        stamp: STAMP,
-        clock: ledger::views::clock(l),
-        patient: ledger::views::patient(l),
-        unused: 0,
-        register: register,
-        active: active,
-        active_count: list.count,
-        tokens: kept,
-        token_count: held.count,
-    }
-}
+impl From<&Ledger> for StoredLedger {
+    ghost from_gives = { λ l stored. stored ≡ stored_of l.now };
 
-// The lowest of the stored directives that match the request.
-fn lowest_match(
-    a: [StoredActive; 32],
-    size: usize,
-    parents: &[u8; register::ROLES],
-    count: usize,
-    q: Request,
-) -> Best
-    ensures { (rs : List Held) → length rs ≤ record_places → ActiveInvariant rs (active_list a size) → result ≡ best_of (keep (λ d. matches (holding (take count parents.now) rs) d q) (directives_of (active_list a size))) }
-{
-    let n = sets::bounds::least(size, 32);
-    let mut best = directive::lowest::nothing();
-    for i in 0..n {
-        let stored = a[i];
-        let x = active_of(stored);
-        let b = active::finds::entry_matches(x, parents, count, q);
-        best = directive::lowest::lower_where(best, x.directive, b);
-    }
-    best
-}
-
-// The decision of the ledger that a stored one stands for. The directives that count are brought back one by one, and nothing else is.
-pub fn decide(t: StoredLedger, q: Query) -> DecideAnswer
-    ensures { Decides (ledger_of t) q result }
-{
-    let g = t.register;
-    match ledger::decision::before_directives(t.patient, g, q) {
-        Opening::Made(a) => a,
-        Opening::Open(origins) => {
-            let parents = g.roles;
-            let stored = t.active;
-            let asked = ledger::decision::request_at(q, t.clock);
-            let best = lowest_match(stored, t.active_count, &parents, g.role_count, asked);
-            ledger::decision::by_directives(best, origins, q)
+    #[tactic(auto, unfolding(crate::specs::Stored::stored_of))]
+    fn from(l: &Ledger) -> StoredLedger {
+        let active = l.active();
+        let tokens = l.tokens();
+        StoredLedger {
+            stamp: STAMP,
+            clock: l.clock(),
+            patient: l.patient(),
+            unused: 0,
+            register: *l.register(),
+            active: stored_actives(active.entries),
+            active_count: active.count,
+            tokens: stored_tokens(tokens.tokens),
+            token_count: tokens.count,
         }
+    }
+}
+
+impl StoredLedger {
+    // The active directives that count, in their order.
+    fn entries(&self) -> &[StoredActive]
+        ensures { result.now ≡ take self.now.active_count self.now.active }
+    {
+        &self.active[..self.active_count.min(active::PLACES)]
+    }
+
+    // The lowest of them that match the request. An entry is brought back where it is looked at.
+    fn lowest_match(&self, parents: &[u8], q: Request) -> Option<Best>
+        ensures { (rs : List Held) → length rs ≤ record_places → ActiveInvariant rs (active_list self.now.active self.now.active_count) → result ≡ best_of (keep (λ d. matches (holding parents.now rs) d q) (directives_of (active_list self.now.active self.now.active_count))) }
+    {
+        let mut best = None;
+        for stored in self.entries() {
+            let a = Active::from(*stored);
+            best = lowest::lower_where(best, &a.directive, a.matches(parents, q));
+        }
+        best
+    }
+
+    // The decision of the ledger that a stored one stands for. Nothing but the directives that count is brought back.
+    pub fn decide(&self, q: Query) -> Result<Decision, NotInRegister>
+        ensures { Decides (ledger_of self.now) q result }
+    {
+        let roles = self.register.roles();
+        decision::decide_by(
+            self.patient,
+            self.clock,
+            &self.register,
+            q,
+            |asked: Request| self.lowest_match(roles, asked),
+        )
     }
 }

@@ -1,12 +1,12 @@
 -- `changed_among`: after x turns the set has those of the records below x that change.
-use mathlib.Core.Path.{refl, ◌∙◌, ap}
-use mathlib.Core.Bool.{false, not}
+use mathlib.Core.Path.{◌≡◌, sym, ◌∙◌}
 use native.Mathlib.Omega.{arith}
 use borrow.Author.Rules.{rules}
 use borrow.Author.Tests.{le-ltb}
 use Rattle.sets.proofs.FillLaws.{below_next, below_all}
-use Rattle.register.proofs.CallLaws.{failed, passed}
+use Rattle.ledger_preview.proofs.changed_among.Invariants.{changes}
 use Rattle.ledger_preview.proofs.changed_among.Goals as goal
+use Rattle.ledger_preview.proofs.changed_among.Goals.{then-contains, else-contains}
 
 pub loop-x-init : goal.loop-x-init
 loop-x-init c =
@@ -17,27 +17,22 @@ loop-x-init c =
       so_far = λ before after k h. c.empty-found.ensures k ∙ rw (le-ltb k 0 (search rules));
     }
 
-pub loop-x-preserved-then-not-member : goal.loop-x-preserved-then-not-member
-loop-x-preserved-then-not-member c =
-    let now = c.loop-x in
-    let outside = failed c.member.ensures (ap not c.if-not-member.true) in
-    record {
-      in_words = search rules;
-      low = search rules;
-      high = search rules;
-      so_far = λ before after. below_next _ _ _ now.x false (now.invariant.so_far before after) (rw outside) (λ k h. refl);
-    }
-
 pub loop-x-preserved : goal.loop-x-preserved
 loop-x-preserved c =
     let now = c.loop-x in
-    let inside = passed c.member.ensures (ap not c.if-not-member.false) in
     record {
       in_words = search rules;
       low = search rules;
       high = search rules;
       so_far = λ before after.
-          below_next _ _ _ now.x c.changes_at-b.result (now.invariant.so_far before after) (rw inside (c.changes_at-b.ensures before after)) c.insert_where-found.ensures;
+          let changed : c.if-contains.changes ≡ changes c.args.before.now c.args.after.now c.args.w c.args.among now.x =
+          elim c.if-contains.branch [
+            | then-contains w ↦
+                rw (w.changes-is, sym c.contains.ensures ∙ w.if-contains.true) (w.changes_at-changes.ensures before after)
+            | else-contains w ↦
+                rw (w.changes-is, w.if-contains.false, sym c.contains.ensures ∙ w.if-contains.false)
+          ] in
+          below_next _ _ _ now.x c.if-contains.changes (now.invariant.so_far before after) changed c.with_where-found.ensures;
     }
 
 pub returns : goal.returns

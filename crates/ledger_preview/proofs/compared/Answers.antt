@@ -13,14 +13,14 @@ use Rattle.ledger_preview.proofs.compared.Goals as goal
 pub returns-then-not-requester_in_range : goal.returns-then-not-requester_in_range
 unfolding first_no
 returns-then-not-requester_in_range c before after d last =
-    let asked = rw c.register_of-g.ensures at c.requester_in_range.ensures in
+    let asked = rw c.register.ensures at c.requester_in_range.ensures in
     rw (failed asked (ap not c.if-not-requester_in_range.true))
 
 pub returns : goal.returns
 unfolding first_no
 returns c before after d last =
-    let asked = rw c.register_of-g.ensures at c.requester_in_range.ensures in
-    let list = c.active_of-list.ensures in
-    let chosen = c.last_selection-among.ensures _ (view c.args.before).active d (rw (← list) at after.shape.active_held) (rw (← list) at (ap (λ (m : Model). m.active) last)) in
+    let asked = rw c.register.ensures at c.requester_in_range.ensures in
+    let list = c.active.ensures in
+    let chosen = c.last_selection-among.ensures _ (view c.args.before.now).active d (rw (← list) at after.shape.active_held) (rw (← list) at (ap (λ (m : Model). m.active) last)) in
     rw (passed asked (ap not c.if-not-requester_in_range.false))
-    (ap done (shown_among _ d _ (records_few before.shape) last chosen (c.changed_among-records.ensures before after) c.size.ensures))
+    (ap done (shown_among _ d _ (records_few before.shape) last chosen (c.changed_among-records.ensures before after) c.len.ensures))
