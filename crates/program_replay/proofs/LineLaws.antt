@@ -1,23 +1,21 @@
 -- Laws of an entry's line. The line of a write that succeeds shows the model's card, whatever stood in the lent buffer.
 use Prim.Native.Nat.{ℕ, min}
+use Rattle.std.proofs.Common.{is_ok, Ok, Err}
 use mathlib.Core.Path.{◌≡◌, refl, ap, ◌∙◌}
 use mathlib.Core.Bool.{true}
 use mathlib.Core.List.{List, [], ◌∷◌, append_assoc}
-use native.Mathlib.Omega.{arith}
-use borrow.Author.Tests.{lt-ltb}
 use lib.ListN.{length, take, length-take}
-use lib.Dec.{ltb}
 use lib.Seq.{take-append_seam}
 use Rattle.sets.proofs.Lists.{take_held}
 use Rattle.ledger.specs.declared.Ledger.{Ledger}
 use Rattle.ledger_model.specs.Model.{Model}
-use Rattle.ledger_model.specs.Answer.{done, refused}
+use Rattle.ledger_model.specs.Answer.{done}
 use Rattle.ledger_model.specs.Questions.{passes}
 use Rattle.ledger_model.proofs.Questions.{first_passed}
 use Rattle.card.specs.Writing.{card_bytes, write_questions, writing, buffered}
-use Rattle.replay_entries.specs.declared.entry.EntryAnswer.{EntryAnswer}
-use Rattle.replay_entries.specs.declared.line.Line.{Line}
-use Rattle.replay_entries.specs.Entries.{Entry, write, Said, says, nothing, said_of, line_of, shown_of, Shows, Performed}
+use Rattle.replay_entries.specs.declared.entry.EntryAnswer.TheVariants as Case
+use Rattle.replay_entries.specs.declared.shown.Line.{Line}
+use Rattle.replay_entries.specs.Entries.{Entry, write, EntryReply, said_of, line_of, shown_of, Shows, Performed}
 use Rattle.text.specs.Text.{line_text}
 use Rattle.text.specs.Puts.{StartsWith}
 use Rattle.program_replay.specs.declared.answer.Shown.{Shown}
@@ -32,26 +30,32 @@ line_of_write m n lent e =
     let card = card_bytes m in
     rw (first_passed (write_questions m (take n lent)) (done (length card ∷ [])) e, e, append_assoc, take-append_seam)
 
--- the line without numbers is the last
-has_numbers : (s : Said) → ltb 0 (length (line_of s)) ≡ goes_on_after s
-has_numbers (says tag (done vs)) = lt-ltb 0 (length (0 ∷ vs)) (omega arith)
-has_numbers (says tag (refused n vs)) = lt-ltb 0 (length (n ∷ vs)) (omega arith)
-has_numbers nothing = refl
+-- what is told goes on
+told : (a : EntryReply) → is_ok a ≡ goes_on_after (said_of a)
+told (Ok (Case.Commit a)) = refl
+told (Ok (Case.Revoke a)) = refl
+told (Ok (Case.Advance a)) = refl
+told (Ok (Case.Issue a)) = refl
+told (Ok (Case.Decide a)) = refl
+told (Ok (Case.Brief a)) = refl
+told (Ok (Case.Write a)) = refl
+told (Ok (Case.Preview a)) = refl
+told (Err m) = refl
 
 -- the numbers of a line and the lent bytes that it shows, or all where there are fewer
 pub printed :
-    {s : Said} {line : Line} {n size : ℕ} {out : List ℕ} (lent : List ℕ) → Shows line (line_of s) (shown_of s) →
+    {a : EntryReply} {line : Line} {n size : ℕ} {out : List ℕ} (lent : List ℕ) → Shows line (line_of (said_of a)) (shown_of (said_of a)) →
     n ≡ min line.bytes (length lent) → StartsWith out size (line_text (take line.count line.numbers) (take n lent)) →
-    Prints s lent (record { size = size; goes_on = ltb 0 line.count }) out
-printed {s} lent shows e starts =
+    Prints (said_of a) lent (record { size = size; goes_on = is_ok a }) out
+printed {a} lent shows e starts =
     record {
-      line = rw (shows.numbers, e, shows.bytes, ← length-take (shown_of s) lent, take_held (shown_of s) lent) at starts;
-      goes_on = rw shows.count (has_numbers s);
+      line = rw (shows.numbers, e, shows.bytes, ← length-take (shown_of (said_of a)) lent, take_held (shown_of (said_of a)) lent) at starts;
+      goes_on = told a;
     }
 
 -- an entry that is performed and whose answer is printed
 pub turned :
-    {l next : Ledger} {e : Entry} {before after out : List ℕ} {a : EntryAnswer} {shown : Shown} →
+    {l next : Ledger} {e : Entry} {before after out : List ℕ} {a : EntryReply} {shown : Shown} →
     Performed l e before a next after → Prints (said_of a) after shown out → EntryTurn l e before next shown after out
 turned performed prints =
     record {
