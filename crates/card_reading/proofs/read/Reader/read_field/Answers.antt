@@ -1,45 +1,36 @@
--- `read::read_field`: a tag's field is read by its function, and any other tag has no place.
-use mathlib.Core.Path.{refl}
-use borrow.Author.Tests.{eq-eqb, ne_eqb}
-use Rattle.ledger_model.specs.Questions.{first_no}
-use Rattle.card.specs.declared.ReadAnswer.TheVariants.{Misplaced}
-use Rattle.card.specs.Grammar.{other}
-use Rattle.card_reading.proofs.ReaderLaws.{refuses}
-use Rattle.card_reading.proofs.read.read_field.Goals as goal
+-- `Reader::read_field`: a field that has no place is refused, and a tag's field is read by its method.
+use mathlib.Core.Path.{◌≡◌, refl, sym, ap, ◌∙◌}
+use Rattle.card.specs.Grammar.{other, tag_of, place, place_of}
+use Rattle.std.proofs.lemmas.Result.{err_from_is_err_and}
+use Rattle.card_reading.proofs.ReaderLaws.{read_as, misplaced}
+use Rattle.card_reading.proofs.read.Reader.read_field.Goals.{In_ok-tag}
+use Rattle.card_reading.proofs.read.Reader.read_field.Goals as goal
 
-pub returns-then-tag-eq1 : goal.returns-then-tag-eq1
-returns-then-tag-eq1 c = rw (eq-eqb _ 1 c.if-tag-eq1.true) c.read_head.ensures
+pub returns-in_err-tag : goal.returns-in_err-tag
+returns-in_err-tag c invariant =
+    let p = err_from_is_err_and c.from_residual.result c.from_residual.ensures.1 in
+    rw (p.1, p.2) (read_as {t = other} (sym c.try_from.ensures ∙ ap place_of c.in_err-tag.was) (misplaced invariant refl))
 
-pub returns-then-tag-eq2 : goal.returns-then-tag-eq2
-returns-then-tag-eq2 c =
-    rw (ne_eqb _ 1 c.if-tag-eq1.false, eq-eqb _ 2 c.if-tag-eq2.true) c.read_roles.ensures
+-- the place of the tag
+at : (c : In_ok-tag) → tag_of c.args.tag ≡ place c.in_ok-tag.tag
+at c = sym c.try_from.ensures ∙ ap place_of c.in_ok-tag.was
 
-pub returns-then-tag-eq3 : goal.returns-then-tag-eq3
-returns-then-tag-eq3 c =
-    rw (
-      ne_eqb _ 1 c.if-tag-eq1.false,
-      ne_eqb _ 2 c.if-tag-eq2.false,
-      eq-eqb _ 3 c.if-tag-eq3.true,
-    )
-    c.read_record.ensures
+pub returns-then-not-has_place : goal.returns-then-not-has_place
+returns-then-not-has_place c invariant =
+    read_as (at (goal.at.returns-then-not-has_place c).In_ok-tag) (misplaced invariant (sym c.has_place.ensures ∙ c.if-not-has_place.true))
 
-pub returns-then-tag-eq4 : goal.returns-then-tag-eq4
-returns-then-tag-eq4 c =
-    rw (
-      ne_eqb _ 1 c.if-tag-eq1.false,
-      ne_eqb _ 2 c.if-tag-eq2.false,
-      ne_eqb _ 3 c.if-tag-eq3.false,
-      eq-eqb _ 4 c.if-tag-eq4.true,
-    )
-    c.read_directive.ensures
+pub returns-in-Head : goal.returns-in-Head
+returns-in-Head c invariant =
+    read_as (at (goal.at.returns-in-Head c).In_ok-tag ∙ ap place c.in-Head.is) (c.read_head.ensures invariant)
 
-pub returns : goal.returns
-unfolding first_no
-returns c invariant =
-    rw (
-      ne_eqb _ 1 c.if-tag-eq1.false,
-      ne_eqb _ 2 c.if-tag-eq2.false,
-      ne_eqb _ 3 c.if-tag-eq3.false,
-      ne_eqb _ 4 c.if-tag-eq4.false,
-    )
-    (refuses {t = other} Misplaced invariant refl refl)
+pub returns-in-Roles : goal.returns-in-Roles
+returns-in-Roles c invariant =
+    read_as (at (goal.at.returns-in-Roles c).In_ok-tag ∙ ap place c.in-Roles.is) (c.read_roles.ensures invariant)
+
+pub returns-in-Record : goal.returns-in-Record
+returns-in-Record c invariant =
+    read_as (at (goal.at.returns-in-Record c).In_ok-tag ∙ ap place c.in-Record.is) (c.read_record.ensures invariant)
+
+pub returns-in-Directive : goal.returns-in-Directive
+returns-in-Directive c invariant =
+    read_as (at (goal.at.returns-in-Directive c).In_ok-tag ∙ ap place c.in-Directive.is) (c.read_directive.ensures invariant)

@@ -1,58 +1,26 @@
--- `read::read_head`: each test that fails is a question missed; where all hold, a ledger begins with the patient and the clock.
-use mathlib.Core.Path.{◌≡◌, refl, ap, ◌∙◌}
-use mathlib.Core.Bool.{true}
-use borrow.Author.Tests.{eq-eqb, ne_eqb, lt-leb, le-leb}
-use lib.ListN.{length}
-use Rattle.sets.specs.Numbers.{number_at}
+-- `Reader::read_head`: the edition is one that there is, and a ledger begins with the patient and the clock; or question 4 is missed.
+use mathlib.Core.Path.{sym, ap, ◌∙◌}
+use Rattle.std.proofs.lemmas.Result.{err_from_is_err_and}
 use Rattle.ledger_model.specs.Questions.{first_no}
 use Rattle.ledger_model.specs.Model.{beginning}
-use Rattle.card.specs.declared.ReadAnswer.TheVariants.{Misplaced, OutOfRange}
+use Rattle.card.specs.declared.ReadRefusal.TheVariants.{OutOfRange}
 use Rattle.card.specs.declared.form.Head.{Head}
-use Rattle.card.specs.Grammar.{head}
-use Rattle.card.specs.Reading.{has_place}
-use Rattle.card_reading.specs.Reader.{progress}
+use Rattle.card.proofs.FormLaws.{edition_there, edition_missing}
 use Rattle.card_reading.proofs.ReaderLaws.{refuses, accepts}
-use Rattle.card_reading.proofs.read.read_head.Goals.{After-head_of-h, Else-v-ne7}
-use Rattle.card_reading.proofs.read.read_head.Goals as goal
+use Rattle.card_reading.proofs.read.Reader.read_head.Goals as goal
 
-pub returns-then-reader-ne0 : goal.returns-then-reader-ne0
+pub returns-in_err-edition : goal.returns-in_err-edition
 unfolding first_no
-returns-then-reader-ne0 c invariant =
-    refuses Misplaced invariant refl (rw (ne_eqb _ 0 c.if-reader-ne0.true))
-
-pub returns-then-v-ne7 : goal.returns-then-v-ne7
-unfolding first_no
-returns-then-v-ne7 c invariant =
-    refuses Misplaced invariant refl (rw (eq-eqb _ 0 c.if-reader-ne0.false, ne_eqb _ 7 c.if-v-ne7.true))
-
-placed :
-    (c : Else-v-ne7) → let args = c.args in
-    has_place (progress args.reader) head (length args.v.now) ≡ true
-placed c = rw (eq-eqb _ 0 c.if-reader-ne0.false, eq-eqb _ 7 c.if-v-ne7.false)
-
-edition :
-    (c : After-head_of-h) → c.head_of-h.result.edition
-    ≡ number_at 0 1 c.args.v.now
-edition c = ap (λ (h : Head). h.edition) c.head_of-h.ensures
-
-pub returns-then-h-lt1 : goal.returns-then-h-lt1
-unfolding first_no
-returns-then-h-lt1 c invariant =
-    let e = edition (goal.at.returns-then-h-lt1 c).After-head_of-h in
-    refuses OutOfRange invariant refl (rw (placed (goal.at.returns-then-h-lt1 c).Else-v-ne7, ← e, lt-leb 1 _ c.if-h-lt1.true))
-
-pub returns-then-h-gt2 : goal.returns-then-h-gt2
-unfolding first_no
-returns-then-h-gt2 c invariant =
-    let e = edition (goal.at.returns-then-h-gt2 c).After-head_of-h in
-    refuses OutOfRange invariant refl
-    (rw (placed (goal.at.returns-then-h-gt2 c).Else-v-ne7, ← e, le-leb 1 _ c.if-h-lt1.false, lt-leb _ 2 c.if-h-gt2.true))
+returns-in_err-edition c invariant =
+    let p = err_from_is_err_and c.from_residual.result c.from_residual.ensures.1 in
+    let edition = ap (λ (h : Head). h.edition) c.from_bytes-head.ensures in
+    let none = edition_missing c.from_bytes-head.result.edition c.in_err-edition.field-0.0 (sym c.in_err-edition.was ∙ c.try_from.ensures) in
+    rw (p.1, p.2) (refuses OutOfRange invariant (rw (c.requires, rw edition at none)))
 
 pub returns : goal.returns
 unfolding first_no
 returns c invariant =
-    let e = edition (goal.at.returns c).After-head_of-h in
-    accepts _ c.begin.ensures.invariant
-    (rw (placed (goal.at.returns c).Else-v-ne7, ← e, le-leb 1 _ c.if-h-lt1.false, le-leb _ 2 c.if-h-gt2.false))
-    e
-    (c.begin.ensures.ledger ∙ ap (λ (h : Head). beginning h.patient h.clock) c.head_of-h.ensures)
+    let edition = ap (λ (h : Head). h.edition) c.from_bytes-head.ensures in
+    let is = edition_there _ _ (sym c.in_ok-edition.was ∙ c.try_from.ensures) in
+    accepts _ c.begin-self.ensures.invariant (rw (c.requires, rw edition at is.there)) (is.number ∙ edition)
+    (c.begin-self.ensures.ledger ∙ ap (λ (h : Head). beginning h.patient h.clock) c.from_bytes-head.ensures)
