@@ -4,40 +4,54 @@ use mathlib.Core.Path.{◌≡◌, refl, sym, ap, ◌∙◌}
 use mathlib.Core.Bool.{true, false}
 use mathlib.Core.List.{List}
 use Rattle.std.specs.Prelude.{Ok, Err}
+use Rattle.std.specs.Result.{IsErrAnd}
+use Rattle.std.proofs.lemmas.Result.{err_from_is_err_and}
 use Rattle.directive.specs.declared.Requester.{Requester}
 use Rattle.ledger_model.specs.Answer.{accepted}
 use Rattle.ledger_model.specs.Model.{Model}
 use Rattle.ledger_model.specs.Calls.{drafted, committed}
-use Rattle.ledger_model.specs.Preview.{compared_for, previewed}
+use Rattle.ledger_model.specs.Preview.{compared_for}
 use Rattle.ledger_model.proofs.PreviewLaws.{preview_accepted, committed_last, preview_refused}
 use Rattle.ledger.specs.declared.Ledger.{Ledger}
 use Rattle.ledger.specs.declared.answer.CommitRefusal.{CommitRefusal}
-use Rattle.ledger.specs.declared.answer.CommitRefusal.TheVariants as Commit
+use Rattle.ledger.specs.declared.answer.CommitRefusal.TheVariants.{WrongLength, Directive, Redundant}
 use Rattle.ledger.specs.State.{view}
-use Rattle.ledger.specs.Invariant.{Invariant}
-use Rattle.ledger.specs.Answer.{commit_refusal, commit_answer}
-use Rattle.ledger.specs.Promises.{CommitResult, Commits}
+use Rattle.ledger.specs.Answer.{CommitAnswer, commit_refusal, commit_answer}
+use Rattle.ledger.specs.Promises.{after as after_of, Commits}
 use Rattle.ledger.proofs.AdmitLaws.{not_accepted}
-use Rattle.ledger_preview.specs.Answer.{PreviewAnswer, preview_answer}
-use Rattle.ledger_preview.specs.Promises.{Compares}
+use Rattle.ledger_preview.specs.declared.PreviewRefusal.TheVariants.{Commit}
+use Rattle.ledger_preview.specs.Answer.{PreviewAnswer}
+use Rattle.ledger_preview.specs.Promises.{Compares, Previews}
 
 not_committed : (x : CommitRefusal) → accepted (commit_refusal x) ≡ false
-not_committed Commit.WrongLength = refl
-not_committed (Commit.Directive r) = not_accepted r
-not_committed Commit.Redundant = refl
+not_committed WrongLength = refl
+not_committed (Directive r) = not_accepted r
+not_committed Redundant = refl
 
-module _ {l : Ledger} (s : List ℕ) {r : CommitResult} (commits : Commits l s r) (w : Requester) (invariant : Invariant l) where
+module _ {l after : Ledger} {s : List ℕ} {w : Requester} {a : CommitAnswer} {b : PreviewAnswer} where
   -- a draft that commit refuses
-  pub refuses : (x : CommitRefusal) → r.answer ≡ Err x → commit_refusal x ≡ previewed (view l) s w
-  refuses x is =
-      preview_refused (view l) s w (ap commit_answer (sym is) ∙ (commits invariant).answer) (not_committed x)
+  pub refused_alike :
+      {x : CommitRefusal} → a ≡ Err x → Commits l s (after_of a after) → IsErrAnd b (λ e. e ≡ Commit x) →
+      Previews l s w (after_of b l)
+  refused_alike {x} is commits given =
+      let e = err_from_is_err_and b given in
+      record {
+        answer = λ invariant.
+            rw (e.1, e.2)
+            (preview_refused (view l) s w (ap commit_answer (sym is) ∙ (commits invariant).answer) (not_committed x));
+        ledger = refl;
+      }
 
   -- a draft that commit accepts
-  pub compares :
-      (a : PreviewAnswer) → r.answer ≡ Ok tt → Compares l r.ledger w a → preview_answer a ≡ previewed (view l) s w
-  compares a is compared =
-      let given = commits invariant in
-      let passed : accepted (committed (view l) s).answer ≡ true = ap accepted (sym given.answer ∙ ap commit_answer is) in
-      compared invariant given.invariant (drafted s) (given.ledger ∙ committed_last (view l) s passed)
-      ∙ ap (λ (m : Model). compared_for (view l) m w) given.ledger
-      ∙ sym (preview_accepted (view l) s w passed)
+  pub compares : a ≡ Ok tt → Commits l s (after_of a after) → Compares l after w b → Previews l s w (after_of b l)
+  compares is commits compared =
+      record {
+        answer = λ invariant.
+            let given = commits invariant in
+            let passed : accepted (committed (view l) s).answer ≡ true =
+            ap accepted (sym given.answer ∙ ap commit_answer is) in
+            compared invariant given.invariant (drafted s) (given.ledger ∙ committed_last (view l) s passed)
+            ∙ ap (λ (m : Model). compared_for (view l) m w) given.ledger
+            ∙ sym (preview_accepted (view l) s w passed);
+        ledger = refl;
+      }

@@ -190,6 +190,7 @@ impl From<&StoredLedger> for Ledger {
     }
 }
 
+// Not one generic function with `stored_tokens`: it would ask its callers how much memory `map` takes at their types.
 fn stored_actives(entries: [Active; active::PLACES]) -> [StoredActive; active::PLACES]
     ensures { result ≡ map stored_active entries }
 {

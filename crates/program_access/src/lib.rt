@@ -14,6 +14,7 @@ use directive::Requester;
 use std::env::Env;
 use std::io::{Read, Write};
 use streams::{Failed, Status};
+use table::Table;
 
 mod draft;
 mod table;
@@ -38,18 +39,26 @@ fn access(card: &[u8], draft: Option<&[u8]>, w: Requester, out: &mut [u8]) -> Sh
     requires { 18480 ≤ length out.old }
     ensures { Shows card.now (option_copied draft.entry) w result out.new }
 {
-    let read = card_reading::read::read(card);
-    let line = card_reading::check::line_of(read);
-    if line.refusal != 0 {
-        return Shown {
-            size: words::put_numbered(out, 0, b"card refused: question ", line.refusal),
-            status: Status::Refused,
-        };
-    }
-    let l = read.ledger;
+    let ledger = match card_reading::read::read(card) {
+        Ok(ledger) => ledger,
+        Err(why) => {
+            return Shown {
+                size: words::put_numbered(out, 0, b"card refused: question ", why.question()),
+                status: Status::Refused,
+            };
+        }
+    };
     match draft {
-        Some(draft) => draft::put_draft(l, draft, w, out),
-        None => table::put_requester(l, l, sets::record_set::empty(), false, w, out),
+        Some(draft) => draft::put_draft(&ledger, draft, w, out),
+        None => {
+            let table = Table {
+                ledger: &ledger,
+                after: &ledger,
+                changed: None,
+                requester: w,
+            };
+            table.put_requester(out)
+        }
     }
 }
 

@@ -15,7 +15,6 @@ use Rattle.program_replay.specs.Lines.{said_text, entry_text, goes_on_after}
 use Rattle.program_replay.specs.declared.input.PartError.{PartError}
 use Rattle.program_replay.specs.declared.input.PartError.TheVariants as Fails
 use Rattle.program_replay.specs.declared.answer.Shown.{Shown}
-use Rattle.program_replay.specs.declared.answer.Turn.{Turn}
 
 -- A head: nothing is there, or not all of it, or all; a failure stays one.
 abbrev pub head_part : Result ℕ Failed → ℕ → Result (Option ℕ) PartError
@@ -40,13 +39,12 @@ pub record Prints (s : Said) (lent : List ℕ) (shown : Shown) (out : List ℕ) 
   pub line : StartsWith out shown.size (said_text s lent)
   pub goes_on : shown.goes_on ≡ goes_on_after s
 
--- A card: its line, and the ledger that it gives, which after a refusal is the empty one itself.
-pub record CardTurn (card : List ℕ) (t : Turn) (out : List ℕ) : Type 0 where
-  pub line : StartsWith out t.shown.size (line_text (card_line card) [])
-  pub ledger : view t.ledger ≡ (reading card).model
-  pub refused : accepted (reading card).answer ≡ false → t.ledger ≡ empty_ledger
-  pub invariant : Invariant t.ledger
-  pub goes_on : t.shown.goes_on ≡ true
+-- A card: its line of this size, and the ledger l that it gives, which after a refusal is the empty one itself.
+pub record CardTurn (card : List ℕ) (l : Ledger) (size : ℕ) (out : List ℕ) : Type 0 where
+  pub line : StartsWith out size (line_text (card_line card) [])
+  pub ledger : view l ≡ (reading card).model
+  pub refused : accepted (reading card).answer ≡ false → l ≡ empty_ledger
+  pub invariant : Invariant l
 
 -- An entry on the ledger l: its line, the ledger `next` after it, which is l itself unless a call succeeds, the lent bytes after it, and
 -- whether the replay goes on.

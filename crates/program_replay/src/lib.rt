@@ -40,15 +40,10 @@ pub fn run<E: Eprint, R: Read, W: Write>(
         Ok(None) | Err(PartError::Cut) => return end_malformed(rt, output, &mut out),
         Err(PartError::Failed) => return Err(Failed),
     };
-    let first = answer::answer_card(&value[..card_size], &mut out);
-    let mut ledger = first.ledger;
-    let mut shown = first.shown;
+    let (mut ledger, length) = answer::answer_card(&value[..card_size], &mut out);
+    streams::put(rt, output, &out[..length])?;
     let mut head = [0u8; 3];
     for _ in 0..u64::MAX {
-        streams::put(rt, output, &out[..shown.size])?;
-        if !shown.goes_on {
-            return Ok(());
-        }
         let n = match input::read_part(rt, input, &mut head, &mut value) {
             Ok(Some(n)) => n,
             Ok(None) => return Ok(()),
@@ -57,12 +52,14 @@ pub fn run<E: Eprint, R: Read, W: Write>(
         };
         let tag = head[0];
         let part = &value[..n];
-        if replay_entries::entry::is_call(tag) {
-            let turn = answer::answer_call(ledger, tag, part, &lent, &mut out);
-            ledger = turn.ledger;
-            shown = turn.shown;
+        let shown = if replay_entries::entry::is_call(tag) {
+            answer::answer_call(&mut ledger, tag, part, &lent, &mut out)
         } else {
-            shown = answer::answer_query(ledger, tag, part, &mut lent, &mut out);
+            answer::answer_query(&ledger, tag, part, &mut lent, &mut out)
+        };
+        streams::put(rt, output, &out[..shown.size])?;
+        if !shown.goes_on {
+            return Ok(());
         }
     }
     Err(Failed)
