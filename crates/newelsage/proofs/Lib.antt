@@ -1,4 +1,2 @@
-pub mod AnswerLaws
 pub mod LibraryLaws
 pub mod ListLaws
-pub mod WalkLaws

@@ -1,27 +1,21 @@
 -- From what reading, an entry and the answer's functions promise to what is left in the caller's memory.
-use Prim.Native.Nat.{ℕ}
+use Prim.Native.Nat.{ℕ, zero, suc, ◌+◌, ◌≤◌}
 use mathlib.Core.Path.{◌≡◌, refl, sym, ap, subst, ◌∙◌}
 use mathlib.Core.Bool.{true≢false}
-use mathlib.Core.List.{List, []}
-use lib.ListN.{length}
-use Rattle.sets.specs.Numbers.{number_at}
+use mathlib.Core.List.{List, [], ◌∷◌}
+use lib.ListN.{length, get_or}
+use native.Mathlib.Omega.{arith}
+use Rattle.sets.specs.Numbers.{number_from}
 use borrow.Author.Tests.{eq-eqb, ne_eqb}
-use Rattle.ledger_model.specs.Answer.{accepted}
 use Rattle.ledger.specs.declared.Ledger.{Ledger}
-use Rattle.ledger.specs.State.{view}
 use Rattle.ledger.specs.Invariant.{Invariant}
 use Rattle.ledger_stored.specs.declared.StoredLedger.{StoredLedger}
 use Rattle.ledger_stored.specs.Stored.{the_stamp, ledger_of, stored_of}
 use Rattle.ledger_stored.proofs.StoredLaws.{ledger_back}
-use Rattle.card.specs.declared.ReadResult.{ReadResult}
-use Rattle.card.specs.Answer.{read_answer}
-use Rattle.card.specs.Promises.{Reads}
-use Rattle.replay_entries.specs.declared.entry.EntryAnswer.{EntryAnswer}
-use Rattle.replay_entries.specs.declared.entry.EntryResult.{EntryResult}
-use Rattle.replay_entries.specs.declared.line.Line.{Line}
-use Rattle.replay_entries.specs.Entries.{Entry, malformed, Said, said_of, call_entry, query_entry, decide_entry, entry_of, is_call, changes, line_of, Shows, Performed, Performs}
-use Rattle.newelsage.specs.Answers.{Told, told, Answered, told_said, told_read, Inquiry, counts, token, entry, inquiry_of, not_a_ledger_status}
-use Rattle.newelsage.specs.Library.{ReadIn, CalledIn, AskedOn, AskedIn}
+use Rattle.replay_entries.specs.declared.shown.Line.{Line}
+use Rattle.replay_entries.specs.Entries.{Entry, malformed, Said, EntryReply, EntryResult, said_of, call_entry, query_entry, decide_entry, entry_of, is_call, changes, line_of, Shows, Performed, Performs}
+use Rattle.newelsage.specs.Answers.{Told, told, Answered, told_said, Inquiry, counts, token, entry, inquiry_of, not_a_ledger_status}
+use Rattle.newelsage.specs.Library.{CalledIn, AskedOn, AskedIn}
 
 -- a stored ledger begins with the stamp
 stamped : (t : StoredLedger) (l : Ledger) → t ≡ stored_of l → t.stamp ≡ the_stamp
@@ -35,19 +29,6 @@ back t l is = ap ledger_of is ∙ ledger_back l
 -- a line is told as the entry's answer
 abbrev pub Tells : Line → ℕ → List ℕ → Type 0
 Tells line status answer = (s : Said) (n : ℕ) → Shows line (line_of s) n → Answered status answer (told_said s)
-
-pub read_in : (card : List ℕ) (r : ReadResult) (status : ℕ) (answer : List ℕ) (after : StoredLedger)
-    → Reads card r → Answered status answer (told_read (record { answer = read_answer r.answer; model = view r.ledger })) → after ≡ stored_of r.ledger
-    → ReadIn card status after answer
-read_in card r status answer after reads tells is =
-    record {
-      told = rw (reads.answer, reads.ledger) at tells;
-      next = r.ledger;
-      stored = is;
-      model = reads.ledger;
-      empty = λ no. reads.unchanged (ap accepted reads.answer ∙ no);
-      invariant = reads.invariant;
-    }
 
 pub not_called : (t : StoredLedger) (tag : ℕ) (v : List ℕ) (status : ℕ) (answer : List ℕ)
     → (t.stamp ≡ the_stamp → ⊥) → Answered status answer (told not_a_ledger_status []) → CalledIn t tag v status t answer
@@ -94,10 +75,6 @@ pub counts_asked : (tag : ℕ) (v : List ℕ) → tag ≡ 0 → length v ≡ 0 �
 unfolding inquiry_of
 counts_asked tag v t n = rw (eq-eqb tag 0 t, eq-eqb (length v) 0 n) refl
 
-pub counts_malformed : (tag : ℕ) (v : List ℕ) → tag ≡ 0 → (length v ≡ 0 → ⊥) → inquiry_of tag v ≡ entry malformed
-unfolding inquiry_of
-counts_malformed tag v t n = rw (eq-eqb tag 0 t, ne_eqb (length v) 0 n) refl
-
 pub decide_asked : (tag : ℕ) (v : List ℕ) → tag ≡ 0x14 → inquiry_of tag v ≡ entry (decide_entry v)
 unfolding inquiry_of entry_of is_call
 decide_asked tag v t = rw t refl
@@ -106,20 +83,25 @@ pub other_asked : (tag : ℕ) (v : List ℕ) → (tag ≡ 0 → ⊥) → (tag �
 unfolding inquiry_of
 other_asked tag v t u = rw (ne_eqb tag 0 t, ne_eqb tag 1 u) refl
 
-pub token_asked : (tag : ℕ) (v : List ℕ) → tag ≡ 1 → length v ≡ 1 → inquiry_of tag v ≡ token (number_at 0 1 v)
-unfolding inquiry_of
-token_asked tag v t n = rw (t, eq-eqb (length v) 1 n) refl
+pub token_asked : (tag : ℕ) (v : List ℕ) → tag ≡ 1 → length v ≡ 1 → inquiry_of tag v ≡ token (get_or v 0 0)
+unfolding inquiry_of number_from
+token_asked tag [] t n = absurd (omega arith)
+token_asked tag (x ∷ []) t n = let same : 0 + x ≡ x = omega arith in rw t (ap token same)
+token_asked tag (x ∷ y ∷ v) t n = absurd (omega arith)
 
-pub token_malformed : (tag : ℕ) (v : List ℕ) → tag ≡ 1 → (length v ≡ 1 → ⊥) → inquiry_of tag v ≡ entry malformed
+-- of the library's own tags, another length
+pub malformed_asked : (tag : ℕ) (v : List ℕ) → (tag ≡ 0 → length v ≡ 0 → ⊥) → (tag ≡ 1 → length v ≡ 1 → ⊥) → tag ≤ 1 → inquiry_of tag v ≡ entry malformed
 unfolding inquiry_of
-token_malformed tag v t n = rw (t, ne_eqb (length v) 1 n) refl
+malformed_asked zero v none place own = rw (ne_eqb (length v) 0 (none refl)) refl
+malformed_asked (suc zero) v none place own = rw (ne_eqb (length v) 1 (place refl)) refl
+malformed_asked (suc (suc tag)) v none place own = absurd (omega arith)
 
 -- what is told and left for the question that it is
 pub as_asked : {l : Ledger} {q r : Inquiry} {before : List ℕ} {status : ℕ} {after answer : List ℕ} → q ≡ r → AskedOn l r before status after answer → AskedOn l q before status after answer
 as_asked {l} {q} {r} {before} {status} {after} {answer} is asks = subst (λ (x : Inquiry). AskedOn l x before status after answer) (sym is) asks
 
 -- a replay's query
-pub query_told : (l : Ledger) (e : Entry) (a : EntryAnswer) (line : Line) (n status : ℕ) (before after answer : List ℕ)
+pub query_told : (l : Ledger) (e : Entry) (a : EntryReply) (line : Line) (n status : ℕ) (before after answer : List ℕ)
     → Performed l e before a l after → Shows line (line_of (said_of a)) n → Tells line status answer → AskedOn l (entry e) before status after answer
 query_told l e a line n status before after answer done shows tells =
     record {

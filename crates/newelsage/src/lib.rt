@@ -29,14 +29,14 @@ pub fn newelsage_version() -> u64
 }
 
 // Makes the empty ledger.
+#[tactic(auto, using(ledger::proofs::Beginning::empty_sound))]
 pub fn newelsage_empty(ledger: &mut StoredLedger, size: usize) -> u64
     ensures { Empties ledger.old size result ledger.new }
 {
     if size < ledger_stored::SIZE {
         return TOO_SHORT;
     }
-    let t = crate::calls::empty();
-    *ledger = t;
+    *ledger = calls::empty();
     0
 }
 
@@ -49,12 +49,11 @@ pub fn newelsage_read(
 ) -> u64
     ensures { Reads ledger.old size card.now result ledger.new answer.new }
 {
-    if size < ledger_stored::SIZE {
-        return crate::answer::refuse(answer, TOO_SHORT);
+    if ledger_stored::SIZE <= size {
+        calls::read(ledger, card, answer)
+    } else {
+        answer::refuse(answer, TOO_SHORT)
     }
-    let r = crate::calls::read(card, answer);
-    *ledger = r.ledger;
-    r.status
 }
 
 // A call that can change the ledger.
@@ -67,12 +66,11 @@ pub fn newelsage_call(
 ) -> u64
     ensures { Calls ledger.old size tag value.now result ledger.new answer.new }
 {
-    if size < ledger_stored::SIZE {
-        return crate::answer::refuse(answer, TOO_SHORT);
+    if ledger_stored::SIZE <= size {
+        calls::call(ledger, tag, value, answer)
+    } else {
+        answer::refuse(answer, TOO_SHORT)
     }
-    let r = crate::calls::call(*ledger, tag, value, answer);
-    *ledger = r.ledger;
-    r.status
 }
 
 // A call that changes nothing of the ledger; a write is lent the start of the buffer.
@@ -86,8 +84,9 @@ pub fn newelsage_ask(
 ) -> u64
     ensures { Asks ledger.now size tag value.now lent.old result lent.new answer.new }
 {
-    if size < ledger_stored::SIZE {
-        return crate::answer::refuse_lent(lent, answer, TOO_SHORT);
+    if ledger_stored::SIZE <= size {
+        calls::ask(ledger, tag, value, lent, answer)
+    } else {
+        answer::refuse(answer, TOO_SHORT)
     }
-    crate::calls::ask(*ledger, tag, value, lent, answer)
 }

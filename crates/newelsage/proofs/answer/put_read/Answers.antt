@@ -1,33 +1,25 @@
--- `put_read`: each case of reading's answer.
-use native.Mathlib.Omega.{arith}
-use Rattle.ledger.specs.declared.answer.CommitAnswer.TheVariants.{Refused}
-use Rattle.replay_entries.specs.declared.entry.EntryAnswer.TheVariants.{Commit}
-use Rattle.replay_entries.specs.Entries.{said_of}
-use Rattle.newelsage.proofs.AnswerLaws.{told_refused}
+-- `put_read`: a refused directive is told as a refused draft.
+use mathlib.Core.Path.{◌≡◌, refl}
+use Rattle.ledger_model.specs.Model.{Model}
+use Rattle.ledger.specs.declared.answer.DirectiveRefusal.{DirectiveRefusal}
+use Rattle.ledger.specs.declared.answer.DirectiveRefusal.TheVariants.{OutOfRange, NotInRegister, NoMinutes, NumberTaken, ListFull, BreaksBaseline, Conflicts}
+use Rattle.ledger.specs.Answer.{directive_refusal}
+use Rattle.replay_entries.specs.Entries.{says}
+use Rattle.newelsage.specs.Answers.{told_of, told_read}
 use Rattle.newelsage.proofs.answer.put_read.Goals as goal
 
-pub returns-in-Accepted : goal.returns-in-Accepted
-returns-in-Accepted c =
-    rw
-    (c.in-Accepted.is, ← c.record_count.ensures, ← c.active_count.ensures)
-    (c.put.ensures (omega arith))
+told_refused : (r : DirectiveRefusal) (m : Model) → told_read (record { answer = directive_refusal r; model = m }) ≡ told_of (directive_refusal r)
+told_refused OutOfRange m = refl
+told_refused NotInRegister m = refl
+told_refused NoMinutes m = refl
+told_refused NumberTaken m = refl
+told_refused ListFull m = refl
+told_refused BreaksBaseline m = refl
+told_refused (Conflicts n) m = refl
 
-pub returns-in-NotWhole : goal.returns-in-NotWhole
-returns-in-NotWhole c = rw c.in-NotWhole.is c.refuse.ensures
-
-pub returns-in-Misplaced : goal.returns-in-Misplaced
-returns-in-Misplaced c = rw c.in-Misplaced.is c.refuse-in-Misplaced.ensures
-
-pub returns-in-TooManyRecords : goal.returns-in-TooManyRecords
-returns-in-TooManyRecords c = rw c.in-TooManyRecords.is c.refuse-in-TooManyRecords.ensures
-
-pub returns-in-OutOfRange : goal.returns-in-OutOfRange
-returns-in-OutOfRange c = rw c.in-OutOfRange.is c.refuse-in-OutOfRange.ensures
-
-pub returns-in-Refused : goal.returns-in-Refused
-returns-in-Refused c =
-    let why = c.in-Refused.why in
-    rw (c.in-Refused.is, told_refused why _) (c.put_line.ensures (said_of (Commit (Refused why))) _ c.line_of.ensures)
-
-pub returns-in-Incomplete : goal.returns-in-Incomplete
-returns-in-Incomplete c = rw c.in-Incomplete.is c.refuse-in-Incomplete.ensures
+pub returns-in-Err-Directive : goal.returns-in-Err-Directive
+returns-in-Err-Directive c =
+    let arm = c.in-Err-Directive in
+    let directive = rw arm.is at arm.field-0-is in
+    rw (arm.is, directive, told_refused arm.why)
+    (c.put_line.ensures (says 0x10 (directive_refusal arm.why)) 0 c.directive_line.ensures)
