@@ -1,4 +1,2 @@
-pub mod TextLaws
-pub mod DecimalLaws
 pub mod HexadecimalLaws
 pub mod Examples

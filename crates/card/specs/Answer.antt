@@ -1,23 +1,37 @@
--- What each case of reading's and writing's answers means, in document 01's numbers and values.
-use Rattle.std.specs.Prelude.{[], ◌∷◌}
+-- What reading's and writing's answers mean, in document 01's numbers and values: those of success, and each case of what they are
+-- refused for.
+use Rattle.std.specs.Prelude.{ℕ, [], ◌∷◌, Result, Ok, Err}
 use Rattle.ledger_model.specs.Answer.{Answer, done, refused}
-use Rattle.ledger.specs.Answer.{directive_answer}
-use Rattle.card.specs.declared.ReadAnswer.{ReadAnswer}
-use Rattle.card.specs.declared.ReadAnswer.TheVariants.{Accepted, NotWhole, Misplaced, TooManyRecords, OutOfRange, Refused, Incomplete}
-use Rattle.card.specs.declared.WriteAnswer.{WriteAnswer}
-use Rattle.card.specs.declared.WriteAnswer.TheVariants.{Written, NoRecord, BufferTooShort}
+use Rattle.ledger.specs.Answer.{directive_refusal}
+use Rattle.card.specs.declared.ReadRefusal.{ReadRefusal}
+use Rattle.card.specs.declared.ReadRefusal.TheVariants.{NotWhole, Misplaced, TooManyRecords, OutOfRange, Directive, Incomplete}
+use Rattle.card.specs.declared.WriteRefusal.{WriteRefusal}
+use Rattle.card.specs.declared.WriteRefusal.TheVariants.{NoRecord, BufferTooShort}
+
+-- The answers: of writing, the length of the card.
+abbrev pub ReadAnswer : Type 0
+ReadAnswer = Result (Unit {0}) ReadRefusal
+
+abbrev pub WriteAnswer : Type 0
+WriteAnswer = Result ℕ WriteRefusal
+
+abbrev pub read_refusal : ReadRefusal → Answer
+read_refusal NotWhole = refused 1 []
+read_refusal Misplaced = refused 2 []
+read_refusal TooManyRecords = refused 3 []
+read_refusal OutOfRange = refused 4 []
+read_refusal (Directive r) = directive_refusal r
+read_refusal Incomplete = refused 5 []
 
 abbrev pub read_answer : ReadAnswer → Answer
-read_answer Accepted = done []
-read_answer NotWhole = refused 1 []
-read_answer Misplaced = refused 2 []
-read_answer TooManyRecords = refused 3 []
-read_answer OutOfRange = refused 4 []
-read_answer (Refused r) = directive_answer r
-read_answer Incomplete = refused 5 []
+read_answer (Ok u) = done []
+read_answer (Err r) = read_refusal r
+
+abbrev pub write_refusal : WriteRefusal → Answer
+write_refusal NoRecord = refused 23 []
+write_refusal BufferTooShort = refused 24 []
 
 -- the length of the card
 abbrev pub write_answer : WriteAnswer → Answer
-write_answer (Written n) = done (n ∷ [])
-write_answer NoRecord = refused 23 []
-write_answer BufferTooShort = refused 24 []
+write_answer (Ok n) = done (n ∷ [])
+write_answer (Err r) = write_refusal r

@@ -9,6 +9,7 @@ use borrow.Author.Tests.{le-leb, lt-leb}
 use lib.ListN.{length, take, drop, get_or, length-drop}
 use lib.Seq.{drop-drop, get_or-drop}
 use lib.Dec.{ltb}
+use Rattle.std.specs.Prelude.{Ok, Err, None}
 use Rattle.sets.specs.Quantifiers.{all_in}
 use Rattle.sets.specs.Numbers.{number, number_at}
 use Rattle.sets.proofs.Quantifiers.{both_ways}
@@ -23,15 +24,15 @@ use Rattle.ledger.specs.Promises.{Gives}
 use Rattle.ledger_model.proofs.Questions.{first_accepted}
 use Rattle.ledger.proofs.CallLaws.{refuses}
 use Rattle.ledger.proofs.Beginning.{empty_view, empty_sound}
-use Rattle.card.specs.declared.ReadAnswer.{ReadAnswer}
-use Rattle.card.specs.declared.ReadAnswer.TheVariants.{Accepted, NotWhole, Incomplete}
+use Rattle.card.specs.declared.ReadRefusal.{ReadRefusal}
+use Rattle.card.specs.declared.ReadRefusal.TheVariants.{NotWhole, Incomplete}
 use Rattle.card_reading.specs.declared.read.Reader.{Reader}
-use Rattle.card_reading.specs.declared.read.Step.{Step}
-use Rattle.card.specs.Answer.{read_answer}
+use Rattle.card.specs.Answer.{ReadAnswer, read_answer, read_refusal}
 use Rattle.card.specs.Grammar.{tag_of, field_tag, value_size, field_value, after_field, stands_whole}
 use Rattle.card.specs.Reading.{Progress, is_empty, field_questions, reading}
 use Rattle.card_reading.specs.Reader.{progress, Took}
-use Rattle.card.specs.Promises.{Reads}
+use Rattle.card_reading.proofs.ReaderLaws.{no_success}
+use Rattle.card.specs.Promises.{read_result, Reads}
 use Rattle.card.proofs.Step.{outcome_from, outcome_end, field_passed, field_missed}
 
 -- the field at place i, of which n is the length
@@ -69,7 +70,7 @@ pub record ReadTo (s : List ℕ) (i : ℕ) (r : Reader) : Type 0 where
   pub invariant : Invariant r.ledger
   pub rest : reading s ≡ outcome_from meant (progress r) (drop i s)
 
-pub read_none : (s : List ℕ) {l : Ledger} → l ≡ empty_ledger → ReadTo s 0 (record { edition = 0; ledger = l })
+pub read_none : (s : List ℕ) {l : Ledger} → l ≡ empty_ledger → ReadTo s 0 (record { edition = None; ledger = l })
 read_none s e =
     rw e
     (record {
@@ -92,46 +93,45 @@ module _ {s : List ℕ} {i : ℕ} {r : Reader} (h : ReadTo s i r) where
 
   -- a field that misses a question
   missed :
-      (a : ReadAnswer) → i < length s →
-      first_no (field_questions meant (progress r) (drop i s)) (done []) ≡ read_answer a → accepted (read_answer a) ≡ false →
-      Reads s (record { answer = a; ledger = empty_ledger })
-  missed a l e f =
+      (a : ReadRefusal) → i < length s →
+      first_no (field_questions meant (progress r) (drop i s)) (done []) ≡ read_refusal a → Reads s (read_result (Err a))
+  missed a l e =
       let qs = field_questions meant (progress r) (drop i s) in
-      gives_empty (reading s) (read_answer a)
+      gives_empty (reading s) (read_refusal a)
       (h.rest
-      ∙ field_missed meant (progress r) (drop i s) (left_over l) (sym (first_accepted qs) ∙ ap accepted e ∙ f)
+      ∙ field_missed meant (progress r) (drop i s) (left_over l) (sym (first_accepted qs) ∙ ap accepted e ∙ no_success a)
       ∙ rw e)
 
-  not_whole : i < length s → stands_whole (drop i s) ≡ false → Reads s (record { answer = NotWhole; ledger = empty_ledger })
+  not_whole : i < length s → stands_whole (drop i s) ≡ false → Reads s (read_result (Err NotWhole))
   unfolding first_no field_questions
-  not_whole l e = missed NotWhole l (rw e) refl
+  not_whole l e = missed NotWhole l (rw e)
 
-  pub head_cut : i < length s → length s < i + 3 → Reads s (record { answer = NotWhole; ledger = empty_ledger })
+  pub head_cut : i < length s → length s < i + 3 → Reads s (read_result (Err NotWhole))
   head_cut l c = not_whole l (cut_head s i c)
 
   module _ (n : ℕ) (size : n ≡ number_at (i + 1) 2 s) where
-    pub value_cut :
-        i + 3 ≤ length s → length s < i + 3 + n → Reads s (record { answer = NotWhole; ledger = empty_ledger })
+    pub value_cut : i + 3 ≤ length s → length s < i + 3 + n → Reads s (read_result (Err NotWhole))
     value_cut l c = not_whole (omega arith) (cut_value s i n size l c)
 
-    -- the step of a field that stands whole
-    module _ (whole : i + 3 + n ≤ length s) (step : Step)
-        (took : Took (progress r) (tag_of (get_or s i 0)) (take (i + 3 + n - (i + 3)) (drop (i + 3) s)) step) where
-      took_here : Took (progress r) (field_tag (drop i s)) (field_value (drop i s)) step
-      took_here = rw (tag_at s i n size, value_at s i n size) took
+    -- what reading the field that stands whole gives
+    module _ (whole : i + 3 + n ≤ length s) (after : Reader) where
+      abbrev TookValue : ReadAnswer → Type 0
+      TookValue a = Took (progress r) (tag_of (get_or s i 0)) (take (i + 3 + n - (i + 3)) (drop (i + 3) s)) a after
+
+      took_here : (a : ReadAnswer) → TookValue a → Took (progress r) (field_tag (drop i s)) (field_value (drop i s)) a after
+      took_here a took = rw (tag_at s i n size, value_at s i n size) took
 
       answered :
-          first_no (field_questions meant (progress r) (drop i s)) (done []) ≡ read_answer step.answer
+          (a : ReadAnswer) → TookValue a →
+          first_no (field_questions meant (progress r) (drop i s)) (done []) ≡ read_answer a
       unfolding first_no field_questions
-      answered =
-          rw (whole_at s i n size whole) (sym took_here.answer)
+      answered a took = rw (whole_at s i n size whole) (sym (took_here a took).answer)
 
-      pub field_refused :
-          accepted (read_answer step.answer) ≡ false → Reads s (record { answer = step.answer; ledger = empty_ledger })
-      field_refused f = missed step.answer (omega arith) answered f
+      pub field_refused : (a : ReadRefusal) → TookValue (Err a) → Reads s (read_result (Err a))
+      field_refused a took = missed a (omega arith) (answered (Err a) took)
 
-      pub field_read : accepted (read_answer step.answer) ≡ true → ReadTo s (i + 3 + n) step.reader
-      field_read f =
+      pub field_read : (u : Unit {0}) → TookValue (Ok u) → ReadTo s (i + 3 + n) after
+      field_read u took =
           let qs = field_questions meant (progress r) (drop i s) in
           record {
             in_card = whole;
@@ -139,8 +139,8 @@ module _ {s : List ℕ} {i : ℕ} {r : Reader} (h : ReadTo s i r) where
             rest =
                 h.rest
                 ∙ field_passed meant (progress r) (drop i s) (left_over (omega arith))
-                (sym (first_accepted qs) ∙ ap accepted answered ∙ f)
-                ∙ rw (after_at s i n size, took_here.reader f);
+                (sym (first_accepted qs) ∙ ap accepted (answered (Ok u) took))
+                ∙ rw (after_at s i n size, (took_here (Ok u) took).reader refl);
           }
 
 -- question 5 of what was read
@@ -154,13 +154,13 @@ module _ {s : List ℕ} {i : ℕ} {r : Reader} (h : ReadTo s i r) (ended : lengt
   none_left : length (drop i s) ≡ 0
   none_left = rw length-drop (omega arith)
 
-  pub end_refused : is_complete (progress r) ≡ false → Reads s (record { answer = Incomplete; ledger = empty_ledger })
+  pub end_refused : is_complete (progress r) ≡ false → Reads s (read_result (Err Incomplete))
   unfolding first_no all_in
   end_refused e =
-      gives_empty (reading s) (read_answer Incomplete)
+      gives_empty (reading s) (read_refusal Incomplete)
       (h.rest ∙ outcome_end meant (progress r) (drop i s) none_left ∙ rw e)
 
-  pub end_read : is_complete (progress r) ≡ true → Reads s (record { answer = Accepted; ledger = r.ledger })
+  pub end_read : is_complete (progress r) ≡ true → Reads s (read_result (Ok r.ledger))
   unfolding first_no all_in
   end_read e =
       gives_read (reading s) r.ledger h.invariant

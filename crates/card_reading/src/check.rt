@@ -4,8 +4,10 @@ ghost use Rattle.ledger.specs.State.{view};
 ghost use Rattle.ledger_model.specs.Answer.{refusal};
 ghost use Rattle.card.specs.Answer.{read_answer};
 ghost use Rattle.card.specs.Reading.{card_line};
+ghost use Rattle.card.specs.Promises.{read_result};
 
-use card::{ReadAnswer, ReadResult};
+use card::ReadRefusal;
+use ledger::Ledger;
 
 #[derive(Clone, Copy)]
 pub struct CardLine {
@@ -14,32 +16,25 @@ pub struct CardLine {
     pub directives: usize,
 }
 
-// The number of the question missed, 0 for none.
-fn refusal_of(answer: ReadAnswer) -> u64
-    ensures { result ≡ refusal (read_answer answer) }
-{
-    match answer {
-        ReadAnswer::Accepted => 0,
-        ReadAnswer::NotWhole => 1,
-        ReadAnswer::Misplaced => 2,
-        ReadAnswer::TooManyRecords => 3,
-        ReadAnswer::OutOfRange => 4,
-        ReadAnswer::Refused(why) => ledger::answer::refusal_of(why),
-        ReadAnswer::Incomplete => 5,
-    }
-}
-
-pub fn line_of(r: ReadResult) -> CardLine
-    ensures refusal_value { result.refusal ≡ refusal (read_answer r.answer) }
-    ensures records_value { result.records ≡ length (view r.ledger).register.records }
-    ensures directives_value { result.directives ≡ length (view r.ledger).active }
-{
-    let answer = r.answer;
-    let l = r.ledger;
-    CardLine {
-        refusal: refusal_of(answer),
-        records: ledger::views::record_count(l),
-        directives: ledger::views::active_count(l),
+impl CardLine {
+    // The line of what reading a card gives.
+    pub fn of(read: &Result<Ledger, ReadRefusal>) -> CardLine
+        ensures refusal_value { result.refusal ≡ refusal (read_answer (read_result read.now).answer) }
+        ensures records_value { result.records ≡ length (view (read_result read.now).ledger).register.records }
+        ensures directives_value { result.directives ≡ length (view (read_result read.now).ledger).active }
+    {
+        match read {
+            Ok(ledger) => CardLine {
+                refusal: 0,
+                records: ledger.register().records().len(),
+                directives: ledger.active().len(),
+            },
+            Err(why) => CardLine {
+                refusal: why.question(),
+                records: 0,
+                directives: 0,
+            },
+        }
     }
 }
 
@@ -47,5 +42,5 @@ pub fn line_of(r: ReadResult) -> CardLine
 pub fn check(card: &[u8]) -> CardLine
     ensures { result.refusal ∷ result.records ∷ result.directives ∷ [] ≡ card_line card.now }
 {
-    line_of(crate::read::read(card))
+    CardLine::of(&crate::read::read(card))
 }

@@ -1,14 +1,16 @@
 -- Laws of writing a card field by field: what is written after what stands before it.
-use Prim.Native.Nat.{ℕ, ◌+◌, ◌*◌, ◌<◌, ◌≤◌}
+use Prim.Native.Nat.{ℕ, ◌+◌, ◌-◌, ◌*◌, ◌<◌, ◌≤◌}
 use mathlib.Core.Path.{◌≡◌, ◌∙◌}
 use mathlib.Core.Bool.{true}
-use mathlib.Core.List.{List, ◌∷◌, map}
+use mathlib.Core.List.{List, ◌∷◌, map, append_assoc}
 use native.Mathlib.Nat.{zero-add}
 use native.Mathlib.Omega.{arith}
+use borrow.Rule.Slice.PartMut.{put_mid}
 use borrow.Author.Tests.{eq-eqb, ne_eqb, le-leb, lt-leb}
 use lib.Dec.{leb}
-use lib.ListN.{length}
-use lib.Seq.{sets, sets-eq}
+use lib.ListN.{length, take}
+use lib.Seq.{sets, sets-eq, drop-drop}
+use Rattle.std.specs.Prelude.{Ok, Err}
 use Rattle.sets.specs.Quantifiers.{all_in}
 use Rattle.sets.specs.Numbers.{bytes}
 use Rattle.sets.proofs.Numbers.{length_bytes}
@@ -20,11 +22,18 @@ use Rattle.ledger_model.specs.Questions.{first_no}
 use Rattle.card.specs.Form.{head_bytes}
 use Rattle.card.specs.Grammar.{field}
 use Rattle.card.specs.Writing.{written_head, record_fields, directive_fields, card_bytes, writing, buffered}
-use Rattle.card.specs.declared.WriteAnswer.TheVariants.{Written, NoRecord, BufferTooShort}
+use Rattle.card.specs.declared.WriteRefusal.TheVariants.{NoRecord, BufferTooShort}
 use Rattle.card.specs.Promises.{Fills}
 use Rattle.card.proofs.Fields.{length_field}
 use Rattle.card.proofs.FormLaws.{length_head}
 use Rattle.card.proofs.Written.{one_a_record, record_field_size, length_card}
+
+-- the bytes that are copied into a part of s
+pub put_part :
+    (s v : List ℕ) (i e : ℕ) → e ≡ i + length v → e ≤ length s → put_mid i (e - i) s v ≡ sets s i v
+put_part s v i e long fits =
+    let size : e - i ≡ length v = omega arith in
+    rw (sets-eq v s i (omega arith), size, drop-drop (length v) i s, append_assoc (take i s) v _)
 
 -- a field is its tag and the length of its value, and then the value
 pub put_field :
@@ -68,14 +77,14 @@ module _ (m : Model) where
 
 -- What writing answers, and the buffer after it: where there is no record, where the card does not fit, and where it does.
 module _ {l : Ledger} {before : List ℕ} where
-  pub fills_none : length (view l).register.records ≡ 0 → Fills l before NoRecord before
+  pub fills_none : length (view l).register.records ≡ 0 → Fills l before (Err NoRecord) before
   unfolding writing first_no buffered all_in
   fills_none e =
       let empty = eq-eqb (length (view l).register.records) 0 e in
       record { answer = rw empty; buffer = rw empty }
 
   module _ (some : length (view l).register.records ≡ 0 → ⊥) where
-    pub fills_short : length before < length (card_bytes (view l)) → Fills l before BufferTooShort before
+    pub fills_short : length before < length (card_bytes (view l)) → Fills l before (Err BufferTooShort) before
     unfolding writing first_no buffered all_in
     fills_short h =
         let full = ne_eqb (length (view l).register.records) 0 some in
@@ -84,7 +93,7 @@ module _ {l : Ledger} {before : List ℕ} where
 
     pub fills_written :
         {after : List ℕ} (n : ℕ) → n ≡ length (card_bytes (view l)) → n ≤ length before →
-        after ≡ sets before 0 (card_bytes (view l)) → Fills l before (Written n) after
+        after ≡ sets before 0 (card_bytes (view l)) → Fills l before (Ok n) after
     unfolding writing first_no buffered all_in
     fills_written n e h stored =
         let card = card_bytes (view l) in

@@ -1,125 +1,166 @@
 // Writing a card: edition 2, with patient, clock, register and active directives.
-ghost use Rattle.std.specs.Prelude.{◌≡◌, ◌∷◌, map, ◌+◌, ◌*◌, ◌<◌, ◌≤◌, length, take};
+ghost use Rattle.std.specs.Prelude.{◌≡◌, ℕ, List, ◌∷◌, ◌+◌, ◌*◌, ◌≤◌, length};
 ghost use Rattle.std.proofs.lemmas.List.Edits.{sets};
 ghost use Rattle.sets.specs.Numbers.{bytes};
-ghost use Rattle.register.specs.Register.{role_places, record_places};
-ghost use Rattle.directive.specs.Places.{active_places};
-ghost use Rattle.register.specs.Form.{record_bytes};
-ghost use Rattle.drafts.specs.Form.{directive_bytes};
-ghost use Rattle.card.specs.Form.{head_bytes};
+ghost use Rattle.sets.proofs.PutLaws.{OneEach};
+ghost use Rattle.register.specs.Register.{role_places};
 ghost use Rattle.card.specs.Grammar.{field};
-ghost use Rattle.card.specs.Writing.{record_fields, directive_fields};
 ghost use Rattle.card.specs.Promises.{Writes};
 
-use active::ActiveList;
-use card::WriteAnswer;
-use card::form::Head;
-use directive::Directive;
+use active::Active;
+use card::WriteRefusal;
+use card::form::{Edition, Head, Tag};
 use ledger::Ledger;
 use register::Record;
+use sets::number::BigEndian;
+
+// What has a field whose value is always as long.
+trait Value {
+    ghost TAG: { ℕ };
+
+    ghost SIZE: { ℕ };
+
+    ghost bytes: { Self → List ℕ };
+
+    const TAG: u8;
+
+    const SIZE: u16;
+
+    // Writes the value from place `at` on.
+    fn put_value(&self, s: &mut [u8], at: usize)
+        requires { at + SIZE ≤ length s.old }
+        ensures { s.new ≡ sets s.old at (bytes self.now) };
+
+    ghost sized: { (v : Self) → length (bytes v) ≡ SIZE };
+}
+
+impl Value for Head {
+    ghost use Rattle.card.specs.Form.{head_size, head_bytes};
+    ghost use Rattle.card.proofs.FormLaws.{length_head};
+
+    ghost TAG = { 0x01 };
+
+    ghost SIZE = { head_size };
+
+    ghost bytes = { head_bytes };
+
+    const TAG: u8 = Tag::Head as u8;
+
+    const SIZE: u16 = card::form::HEAD_SIZE as u16;
+
+    ghost sized = { length_head };
+
+    fn put_value(&self, s: &mut [u8], at: usize) {
+        self.put(s, at);
+    }
+}
+
+impl Value for Record {
+    ghost use Rattle.register.specs.Form.{record_size, record_bytes};
+    ghost use Rattle.register.proofs.FormLaws.{length_record};
+
+    ghost TAG = { 0x03 };
+
+    ghost SIZE = { record_size };
+
+    ghost bytes = { record_bytes };
+
+    const TAG: u8 = Tag::Record as u8;
+
+    const SIZE: u16 = 10;
+
+    ghost sized = { length_record };
+
+    fn put_value(&self, s: &mut [u8], at: usize) {
+        self.put(s, at);
+    }
+}
+
+// Its directive alone is written.
+impl Value for Active {
+    ghost use Rattle.drafts.specs.Form.{draft_size, directive_bytes};
+    ghost use Rattle.drafts.proofs.FormLaws.{length_directive};
+
+    ghost TAG = { 0x04 };
+
+    ghost SIZE = { draft_size };
+
+    ghost bytes = { λ a. directive_bytes a.directive };
+
+    const TAG: u8 = Tag::Directive as u8;
+
+    const SIZE: u16 = drafts::SIZE as u16;
+
+    ghost sized = { λ a. length_directive a.directive };
+
+    fn put_value(&self, s: &mut [u8], at: usize) {
+        drafts::form::put_directive(s, at, &self.directive);
+    }
+}
 
 // A field's tag and the length of its value.
 fn put_tag(s: &mut [u8], at: usize, tag: u8, size: u16)
     requires { at + 3 ≤ length s.old }
     ensures { s.new ≡ sets s.old at (tag ∷ bytes 2 size) }
 {
-    sets::number::put1(s, at, tag);
-    sets::number::put2(s, at + 1, size);
+    tag.put(s, at);
+    size.put(s, at + 1);
 }
 
-fn put_head_field(s: &mut [u8], at: usize, h: Head)
-    requires { at + 10 ≤ length s.old }
-    ensures { s.new ≡ sets s.old at (field 0x01 (head_bytes h)) }
+// The field of a value, from place `at` on.
+fn put_field<V: Value>(s: &mut [u8], at: usize, v: &V)
+    requires { at + (3 + V.SIZE) ≤ length s.old }
+    ensures { s.new ≡ sets s.old at (field V.TAG (V.bytes v.now)) }
 {
-    put_tag(s, at, 0x01, 7);
-    card::form::put_head(s, at + 3, h);
+    put_tag(s, at, V::TAG, V::SIZE);
+    v.put_value(s, at + 3);
 }
 
-// The parents of the first n roles.
-fn put_parents(s: &mut [u8], at: usize, parents: [u8; register::ROLES], n: usize)
-    requires { (n ≤ role_places) × (at + n ≤ length s.old) }
-    ensures { s.new ≡ sets s.old at (take n parents) }
+// A field for each value, in order.
+fn put_fields<V: Value>(s: &mut [u8], at: usize, values: &[V])
+    requires { at + (3 + V.SIZE) * length values.now ≤ length s.old }
+    ensures { (fields : List V → List ℕ) → OneEach fields (λ v. field V.TAG (V.bytes v)) → s.new ≡ sets s.old at (fields values.now) }
 {
-    for q in 0..n {
-        s[at + q] = parents[q];
+    for (i, v) in values.iter().enumerate() {
+        put_field(s, at + (3 + usize::from(V::SIZE)) * i, v);
     }
 }
 
-fn put_roles_field(s: &mut [u8], at: usize, parents: [u8; register::ROLES], n: usize)
-    requires { (n ≤ role_places) × (at + (3 + n) ≤ length s.old) }
-    ensures { s.new ≡ sets s.old at (field 0x02 (take n parents)) }
+// The field of the roles: the parent of each.
+fn put_roles_field(s: &mut [u8], at: usize, parents: &[u8])
+    requires { (length parents.now ≤ role_places) × (at + (3 + length parents.now) ≤ length s.old) }
+    ensures { s.new ≡ sets s.old at (field 0x02 parents.now) }
 {
-    put_tag(s, at, 0x02, n as u16);
-    put_parents(s, at + 3, parents, n);
+    let n = parents.len();
+    put_tag(s, at, Tag::Roles as u8, n as u16);
+    s[at + 3..at + 3 + n].copy_from_slice(parents);
 }
 
-fn put_record_field(s: &mut [u8], at: usize, r: Record)
-    requires { at + 13 ≤ length s.old }
-    ensures { s.new ≡ sets s.old at (field 0x03 (record_bytes r)) }
+// The card of the ledger, in the first bytes of the buffer: how many they are.
+pub fn write(ledger: &Ledger, buffer: &mut [u8]) -> Result<usize, WriteRefusal>
+    ensures { Writes ledger.now buffer.old result buffer.new }
 {
-    put_tag(s, at, 0x03, 10);
-    register::form::put_record(s, at + 3, r);
-}
-
-// A field for each of the first n records, in order.
-fn put_records(s: &mut [u8], at: usize, records: [Record; register::RECORDS], n: usize)
-    requires { (n ≤ record_places) × (at + 13 * n ≤ length s.old) }
-    ensures { s.new ≡ sets s.old at (record_fields (take n records)) }
-{
-    for x in 0..n {
-        let r = records[x];
-        put_record_field(s, at + 13 * x, r);
+    let roles = ledger.register().roles();
+    let records = ledger.register().records();
+    let active = ledger.active().as_slice();
+    if records.is_empty() {
+        return Err(WriteRefusal::NoRecord);
     }
-}
-
-fn put_directive_field(s: &mut [u8], at: usize, d: Directive)
-    requires { at + 28 ≤ length s.old }
-    ensures { s.new ≡ sets s.old at (field 0x04 (directive_bytes d)) }
-{
-    put_tag(s, at, 0x04, drafts::SIZE as u16);
-    drafts::form::put_directive(s, at + 3, d);
-}
-
-// A field for each of the first n directives of the list, in order.
-fn put_directives(s: &mut [u8], at: usize, list: ActiveList, n: usize)
-    requires { (n ≤ active_places) × (at + 28 * n ≤ length s.old) }
-    ensures { s.new ≡ sets s.old at (directive_fields (map (λ a. a.directive) (take n list.entries))) }
-{
-    for i in 0..n {
-        let a = list.entries[i];
-        let d = a.directive;
-        put_directive_field(s, at + 28 * i, d);
-    }
-}
-
-// The card of the ledger, in the first bytes of the buffer.
-pub fn write(l: Ledger, buffer: &mut [u8]) -> WriteAnswer
-    ensures { Writes l buffer.old result buffer.new }
-{
-    let roles = ledger::views::role_count(l);
-    let records = ledger::views::record_count(l);
-    let directives = ledger::views::active_count(l);
-    if records == 0 {
-        return WriteAnswer::NoRecord;
-    }
-    let at_records = 13 + roles;
-    let at_directives = at_records + 13 * records;
-    let size = at_directives + 28 * directives;
+    // each field has three bytes before its value
+    let at_records = 13 + roles.len();
+    let at_directives = at_records + 13 * records.len();
+    let size = at_directives + 28 * active.len();
     if buffer.len() < size {
-        return WriteAnswer::BufferTooShort;
+        return Err(WriteRefusal::BufferTooShort);
     }
-    let g = ledger::views::register_of(l);
-    let h = Head {
-        edition: 2,
-        patient: ledger::views::patient(l),
-        clock: ledger::views::clock(l),
+    let head = Head {
+        edition: Edition::Second as u8,
+        patient: ledger.patient(),
+        clock: ledger.clock(),
     };
-    let parents = g.roles;
-    let items = g.records;
-    let list = ledger::views::active_of(l);
-    put_head_field(buffer, 0, h);
-    put_roles_field(buffer, 10, parents, roles);
-    put_records(buffer, at_records, items, records);
-    put_directives(buffer, at_directives, list, directives);
-    WriteAnswer::Written(size)
+    put_field(buffer, 0, &head);
+    put_roles_field(buffer, 10, roles);
+    put_fields(buffer, at_records, records);
+    put_fields(buffer, at_directives, active);
+    Ok(size)
 }

@@ -16,12 +16,10 @@ use Rattle.ledger.specs.State.{view}
 use Rattle.ledger_model.specs.Answer.{done}
 use Rattle.ledger_model.specs.Questions.{passes}
 use Rattle.ledger_model.proofs.Questions.{first_passed}
-use Rattle.card.specs.declared.ReadResult.{ReadResult}
-use Rattle.card.specs.declared.WriteAnswer.{WriteAnswer}
-use Rattle.card.specs.Answer.{read_answer, write_answer}
+use Rattle.card.specs.Answer.{WriteAnswer, read_answer, write_answer}
 use Rattle.card.specs.Reading.{card_questions, content_of, reading, written_edition}
 use Rattle.card.specs.Writing.{write_questions, card_bytes, writing, buffered}
-use Rattle.card.specs.Promises.{Reads, Writes}
+use Rattle.card.specs.Promises.{ReadResult, Reads, Writes}
 use Rattle.card.proofs.ReadSound.{some_in_lem, filled}
 use Rattle.card.proofs.RoundTrip.{a_record_read, read_back, write_back}
 use Rattle.demands.specs.Runs.{Reachable}

@@ -13,7 +13,7 @@ use Rattle.directive.specs.declared.Query.{Query}
 use Rattle.directive.specs.Matching.{matches, request_at}
 use Rattle.validation_meaning.specs.Requests.{persons, InRange}
 use Rattle.ledger.specs.declared.Ledger.{Ledger}
-use Rattle.ledger.specs.declared.answer.DecideAnswer.{DecideAnswer}
+use Rattle.ledger.specs.Answer.{DecideAnswer}
 use Rattle.ledger_model.specs.Model.{Model}
 use Rattle.ledger.specs.State.{view}
 use Rattle.directive.specs.Lowest.{lowest}

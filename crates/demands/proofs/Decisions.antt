@@ -7,10 +7,9 @@ use lib.ListN.{take}
 use Rattle.sets.proofs.Quantifiers.{either_way}
 use Rattle.directive.specs.declared.Query.{Query}
 use Rattle.ledger.specs.declared.Ledger.{Ledger}
-use Rattle.ledger.specs.declared.answer.DecideAnswer.{DecideAnswer}
 use Rattle.ledger.specs.State.{view}
 use Rattle.ledger_model.specs.Answer.{done, values}
-use Rattle.ledger.specs.Answer.{decide_answer}
+use Rattle.ledger.specs.Answer.{DecideAnswer, decide_answer}
 use Rattle.ledger_model.specs.Decision.{is_patient, is_author, decision, decision_values}
 use Rattle.ledger_model.specs.Questions.{passes, decide_questions}
 use Rattle.ledger_model.specs.Calls.{decided}

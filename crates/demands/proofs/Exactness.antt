@@ -18,7 +18,6 @@ use Rattle.validation_meaning.proofs.Requests.{every_request_lem, some_request_l
 use Rattle.validation_meaning.proofs.ConflictLaws.{conflict_read, conflict_make}
 use Rattle.validation_meaning.proofs.InclusionLaws.{covered_read, covered_make, included_read, included_make}
 use Rattle.ledger.specs.declared.Ledger.{Ledger}
-use Rattle.ledger.specs.declared.answer.CommitResult.{CommitResult}
 use Rattle.ledger_model.specs.Model.{Model}
 use Rattle.ledger.specs.State.{view}
 use Rattle.ledger_model.specs.Answer.{Answer, done, refused, refusal}
@@ -27,7 +26,7 @@ use Rattle.directive.specs.Lowest.{lowest_number}
 use Rattle.ledger_model.specs.Questions.{first_no, passes, questions_before, conflicting, bytes_questions}
 use Rattle.ledger_model.specs.Calls.{drafted, committed_by, committed}
 use Rattle.ledger.specs.Invariant.{Invariant}
-use Rattle.ledger.specs.Promises.{Commits}
+use Rattle.ledger.specs.Promises.{CommitResult, Commits}
 use Rattle.ledger_model.proofs.Questions.{first_append, first_passed}
 use Rattle.ledger_model.proofs.Passed.{from_13}
 use Rattle.demands.specs.Demands.{opposed, matched_by_active, refused_with, Exact}

@@ -31,10 +31,9 @@ use Rattle.ledger_model.proofs.Clash.{no_clash_at}
 use Rattle.ledger_model.proofs.Covering.{speaks, covered_by_drafts}
 use Rattle.ledger_model.proofs.Order.{same_drafts}
 use Rattle.ledger.specs.declared.Ledger.{Ledger}
-use Rattle.ledger.specs.declared.answer.CommitResult.{CommitResult}
 use Rattle.ledger.specs.State.{view}
 use Rattle.ledger.specs.Invariant.{Invariant}
-use Rattle.ledger.specs.Promises.{Commits}
+use Rattle.ledger.specs.Promises.{CommitResult, Commits}
 use Rattle.demands.specs.Demands.{refused_with}
 use Rattle.demands.specs.Folder.{with_reach, OneForTwo, at_reach, together, PassesBefore12, Folders}
 use Rattle.demands.proofs.Exactness.{draft_exact}

@@ -20,10 +20,9 @@ use Rattle.ledger_model.specs.Calls.{committed}
 use Rattle.ledger_model.specs.Preview.{is_change, decision_changes}
 use Rattle.ledger_model.proofs.PreviewLaws.{changed_outside, preview_accepted, preview_refused, committed_last}
 use Rattle.ledger.specs.declared.Ledger.{Ledger}
-use Rattle.ledger.specs.declared.answer.DecideAnswer.{DecideAnswer}
 use Rattle.ledger.specs.State.{view}
 use Rattle.ledger.specs.Invariant.{Invariant}
-use Rattle.ledger.specs.Answer.{commit_answer}
+use Rattle.ledger.specs.Answer.{DecideAnswer, commit_answer}
 use Rattle.ledger.proofs.CallLaws.{records_few}
 use Rattle.demands.specs.Foresight.{records_of, DecidesAll, answers_change, Foresight}
 use Rattle.demands.proofs.Runs.{meant_sound}

@@ -12,7 +12,7 @@ use Rattle.sets.specs.Numbers.{is_bytes}
 use Rattle.directive.specs.declared.Query.{Query}
 use Rattle.validation_meaning.specs.Requests.{persons}
 use Rattle.ledger.specs.declared.Ledger.{Ledger}
-use Rattle.ledger.specs.declared.answer.DecideAnswer.{DecideAnswer}
+use Rattle.ledger.specs.Answer.{DecideAnswer}
 use Rattle.ledger.specs.State.{view}
 use Rattle.ledger_model.specs.Answer.{Answer, values}
 use Rattle.ledger_model.specs.Calls.{Call, commit, advance, decided, model_after}

@@ -13,32 +13,23 @@ use Rattle.validation_meaning.specs.Requests.{persons, every_request, some_reque
 use Rattle.validation_meaning.specs.Meaning.{same_effect}
 use Rattle.validation_meaning.specs.Judgement.{meant}
 use Rattle.ledger.specs.declared.Ledger.{Ledger}
-use Rattle.ledger.specs.declared.answer.CommitResult.{CommitResult}
-use Rattle.ledger.specs.declared.answer.RevokeResult.{RevokeResult}
-use Rattle.ledger.specs.declared.answer.AdvanceResult.{AdvanceResult}
-use Rattle.ledger.specs.declared.answer.IssueResult.{IssueResult}
-use Rattle.ledger.specs.declared.answer.BriefAnswer.{BriefAnswer}
-use Rattle.ledger.specs.declared.answer.DecideAnswer.{DecideAnswer}
 use Rattle.ledger_model.specs.Model.{Model, with_tokens}
 use Rattle.ledger.specs.State.{view, empty_ledger}
 use Rattle.ledger_model.specs.Answer.{Answer, done, refused, accepted, refusal, values}
-use Rattle.ledger.specs.Answer.{commit_answer, revoke_answer, advance_answer, issue_answer, brief_answer, decide_answer}
+use Rattle.ledger.specs.Answer.{BriefAnswer, DecideAnswer, commit_answer, revoke_answer, advance_answer, issue_answer, brief_answer, decide_answer}
 use Rattle.ledger_model.specs.Decision.{matching, is_patient, is_author, decision, decision_values}
 use Rattle.ledger_model.specs.Xacml.{Effect, directives_say, deny_overrides, permit_overrides, results, effect_of}
 use Rattle.ledger_model.specs.Questions.{Question, passes, questions_before, bytes_questions, revoke_questions, advance_questions, decide_questions, issue_questions, brief_questions}
 use Rattle.ledger_model.specs.Calls.{commit, advance, Call, drafted, after_commit, after_revoke, after_advance, after_issue, dropped, brief_values, decided, briefed, model_after, answers}
 use Rattle.ledger_model.specs.Preview.{preview_questions, preview_values}
 use Rattle.ledger_model.specs.Compatible.{compatible}
-use Rattle.ledger.specs.Promises.{Commits, Revokes, Advances, Issues, Decides, Briefs}
-use Rattle.ledger_preview.specs.declared.PreviewResult.{PreviewResult}
+use Rattle.ledger.specs.Promises.{CommitResult, RevokeResult, AdvanceResult, IssueResult, Commits, Revokes, Advances, Issues, Decides, Briefs}
 use Rattle.ledger_preview.specs.Answer.{preview_answer}
-use Rattle.ledger_preview.specs.Promises.{Previews}
-use Rattle.card.specs.declared.ReadResult.{ReadResult}
-use Rattle.card.specs.declared.WriteAnswer.{WriteAnswer}
-use Rattle.card.specs.Answer.{read_answer, write_answer}
+use Rattle.ledger_preview.specs.Promises.{PreviewResult, Previews}
+use Rattle.card.specs.Answer.{WriteAnswer, read_answer, write_answer}
 use Rattle.card.specs.Reading.{card_questions, content_of, reading, written_edition}
 use Rattle.card.specs.Writing.{write_questions, card_bytes, writing, buffered}
-use Rattle.card.specs.Promises.{Reads, Writes}
+use Rattle.card.specs.Promises.{ReadResult, Reads, Writes}
 use Rattle.demands.specs.Runs.{Run, Reachable}
 use Rattle.demands.specs.Counts.{totals}
 

@@ -4,7 +4,6 @@ use Rattle.std.specs.Prelude.{ℕ, ◌<◌, ◌≡◌, true, ◌&&◌, ◌||◌,
 use mathlib.Core.List.{List, [], ◌∷◌, map, Memᴰ}
 use Rattle.sets.specs.Quantifiers.{pick}
 use Rattle.register.specs.declared.records.Reach.{Reach}
-use Rattle.register.specs.declared.records.Reach.TheVariants as Reach
 use Rattle.directive.specs.declared.Directive.{Directive}
 use Rattle.directive.specs.declared.Request.{Request}
 use Rattle.directive.specs.declared.Query.{Query}
@@ -18,10 +17,9 @@ use Rattle.ledger_model.specs.Questions.{passes, questions_before, bytes_questio
 use Rattle.ledger_model.specs.Calls.{commit, advance, drafted}
 use Rattle.ledger_model.specs.Compatible.{compatible}
 use Rattle.ledger.specs.declared.Ledger.{Ledger}
-use Rattle.ledger.specs.declared.answer.CommitResult.{CommitResult}
-use Rattle.ledger.specs.declared.answer.DecideAnswer.{DecideAnswer}
+use Rattle.ledger.specs.Answer.{DecideAnswer}
 use Rattle.ledger.specs.State.{view}
-use Rattle.ledger.specs.Promises.{Commits, Decides}
+use Rattle.ledger.specs.Promises.{CommitResult, Commits, Decides}
 use Rattle.demands.specs.Runs.{Run, Reachable}
 use Rattle.demands.specs.Demands.{effect_and_basis, refused_with}
 

@@ -11,14 +11,11 @@ use Rattle.directive.specs.Matching.{query_on}
 use Rattle.ledger_model.specs.Answer.{done, refused, accepted}
 use Rattle.ledger_model.specs.Preview.{is_change, requester_passes}
 use Rattle.ledger.specs.declared.Ledger.{Ledger}
-use Rattle.ledger.specs.declared.answer.CommitResult.{CommitResult}
-use Rattle.ledger.specs.declared.answer.DecideAnswer.{DecideAnswer}
 use Rattle.ledger.specs.State.{view}
-use Rattle.ledger.specs.Answer.{commit_answer, decide_answer}
-use Rattle.ledger.specs.Promises.{Commits, Decides}
-use Rattle.ledger_preview.specs.declared.PreviewResult.{PreviewResult}
+use Rattle.ledger.specs.Answer.{DecideAnswer, commit_answer, decide_answer}
+use Rattle.ledger.specs.Promises.{CommitResult, Commits, Decides}
 use Rattle.ledger_preview.specs.Answer.{preview_answer}
-use Rattle.ledger_preview.specs.Promises.{Previews}
+use Rattle.ledger_preview.specs.Promises.{PreviewResult, Previews}
 use Rattle.demands.specs.Runs.{Reachable}
 
 -- the records of the register

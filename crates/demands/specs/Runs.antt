@@ -2,17 +2,12 @@
 use Rattle.std.specs.Prelude.{ℕ, ◌^◌, ◌<◌, ◌≡◌, true, List, [], ◌∷◌}
 use Rattle.sets.specs.Numbers.{is_bytes}
 use Rattle.ledger.specs.declared.Ledger.{Ledger}
-use Rattle.ledger.specs.declared.answer.CommitResult.{CommitResult}
-use Rattle.ledger.specs.declared.answer.RevokeResult.{RevokeResult}
-use Rattle.ledger.specs.declared.answer.AdvanceResult.{AdvanceResult}
-use Rattle.ledger.specs.declared.answer.IssueResult.{IssueResult}
 use Rattle.ledger.specs.State.{empty_ledger}
 use Rattle.ledger_model.specs.Answer.{Answer}
 use Rattle.ledger.specs.Answer.{commit_answer, revoke_answer, advance_answer, issue_answer}
 use Rattle.ledger_model.specs.Calls.{Call, commit, revoke, advance, issue}
-use Rattle.ledger.specs.Promises.{Commits, Revokes, Advances, Issues}
-use Rattle.card.specs.declared.ReadResult.{ReadResult}
-use Rattle.card.specs.Promises.{Reads}
+use Rattle.ledger.specs.Promises.{CommitResult, RevokeResult, AdvanceResult, IssueResult, Commits, Revokes, Advances, Issues}
+use Rattle.card.specs.Promises.{ReadResult, Reads}
 
 -- One call of the program, with arguments of document 01's widths, as its function's promise has it: the ledger before, the
 -- call, the answer in document 01's numbers, the ledger after.

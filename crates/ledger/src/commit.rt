@@ -81,8 +81,8 @@ impl Ledger {
     pub fn admit(&mut self, s: Draft) -> Result<(), DirectiveRefusal>
         ensures { Admits self.old s (after result self.new) }
     {
-        let a = self.asked(s)?;
-        self.active.push(a);
+        let admitted = self.asked(s)?;
+        self.active.push(admitted);
         Ok(())
     }
 

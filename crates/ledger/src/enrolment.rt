@@ -1,6 +1,7 @@
 // How a card's ledger comes about: patient and clock, then roles, then records. Roles and a record are put to question 4 here.
 ghost use Rattle.std.specs.Prelude.{◌≡◌, ◌<◌, ◌≤◌, length};
 ghost use Rattle.register.specs.Register.{role_places, record_places};
+ghost use Rattle.ledger.specs.State.{view};
 ghost use Rattle.ledger.specs.Enrolment.{BeginsWith, EnrolsRoles, EnrolsRecord};
 
 use crate::Ledger;
@@ -23,7 +24,7 @@ impl Ledger {
 
     // Takes the parents of the roles into a ledger that has none yet.
     pub fn enrol_roles(&mut self, parents: &[u8]) -> Result<(), OutOfRange>
-        requires { (length parents.now ≤ role_places) × (self.old.register.role_count ≡ 0) }
+        requires { (length parents.now ≤ role_places) × (length (view self.old).register.roles ≡ 0) }
         ensures { EnrolsRoles self.old parents.now result self.new }
     {
         if !form::is_tree(parents) {
@@ -37,7 +38,7 @@ impl Ledger {
 
     // Takes one record more into a ledger that has roles and no directives.
     pub fn enrol_record(&mut self, r: Record) -> Result<(), OutOfRange>
-        requires { (self.old.register.record_count < record_places) × (0 < self.old.register.role_count) × (self.old.active.count ≡ 0) }
+        requires { (length (view self.old).register.records < record_places) × (0 < length (view self.old).register.roles) × (length (view self.old).active ≡ 0) }
         ensures { EnrolsRecord self.old r result self.new }
     {
         let at = self.register.records().len();

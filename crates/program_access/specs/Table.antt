@@ -1,7 +1,7 @@
 -- Who may read which record at the card's clock, in words: a line a record, `record 1: deny, basis 3 (directive 7)`. With a draft, what
 -- would change by its commit stands in the same line: `record 1: permit, basis 4 (default), changes to deny, basis 3 (directive 7)`, and a
 -- last line counts: `records that change: 1`. Document 02, #101: "Patients want the effect of a draft on the screen before they press the pen."
-use Rattle.std.specs.Prelude.{ℕ, zero, suc, Bool, true, false, ◌&&◌, List, [], ◌∷◌, ◌++◌, length, nat_eq}
+use Rattle.std.specs.Prelude.{ℕ, zero, suc, Bool, true, ◌&&◌, Option, Some, None, List, [], ◌∷◌, ◌++◌, length, nat_eq}
 use Rattle.sets.specs.Quantifiers.{pick}
 use Rattle.sets.specs.RecordSets.{record_set_of, set_bits}
 use Rattle.directive.specs.declared.Requester.{Requester}
@@ -89,33 +89,24 @@ draft_text m s w =
     (requester_text m (committed m s).model w (count_text m (committed m s).model w))
     (draft_refusal_text (committed m s).answer)
 
--- the bytes of a draft, or no draft
-pub data OptionalDraft : Type 0 where
-  none : OptionalDraft
-  given : List ℕ → OptionalDraft
-
-abbrev pub draft_where : Bool → List ℕ → OptionalDraft
-draft_where true s = given s
-draft_where false s = none
-
 -- without a draft nothing changes, and nothing is counted
-abbrev pub ledger_text : Model → OptionalDraft → Requester → List ℕ
-ledger_text m none w = requester_text m m w []
-ledger_text m (given s) w = draft_text m s w
+abbrev pub ledger_text : Model → Option (List ℕ) → Requester → List ℕ
+ledger_text m None w = requester_text m m w []
+ledger_text m (Some s) w = draft_text m s w
 
 -- there is no draft, or a commit would accept it
-abbrev pub draft_accepted : Model → OptionalDraft → Bool
-draft_accepted m none = true
-draft_accepted m (given s) = accepted (committed m s).answer
+abbrev pub draft_accepted : Model → Option (List ℕ) → Bool
+draft_accepted m None = true
+draft_accepted m (Some s) = accepted (committed m s).answer
 
 -- what `access` prints for a card, a draft and a requester: where the card is refused, the number of the question that it misses alone
-abbrev pub access_text : List ℕ → OptionalDraft → Requester → List ℕ
+abbrev pub access_text : List ℕ → Option (List ℕ) → Requester → List ℕ
 access_text card d w =
     pick (accepted (reading card).answer) (ledger_text (reading card).model d w)
     (numbered_text card_refused_word (refusal (reading card).answer))
 
 -- there is a table
-abbrev pub is_table : List ℕ → OptionalDraft → Requester → Bool
+abbrev pub is_table : List ℕ → Option (List ℕ) → Requester → Bool
 is_table card d w =
     accepted (reading card).answer
     && draft_accepted (reading card).model d

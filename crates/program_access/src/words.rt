@@ -7,7 +7,7 @@ ghost use Rattle.text.specs.Puts.{Puts};
 ghost use Rattle.program_access.specs.Words.{record_word, colon_word};
 ghost use Rattle.program_access.specs.Table.{effect_text, decision_text, answer_text, numbered_text};
 
-use ledger::answer::DecideAnswer;
+use ledger::answer::{Decision, NotInRegister};
 
 fn put_effect(out: &mut [u8], at: usize, permit: bool) -> usize
     requires { at + 6 ≤ length out.old }
@@ -15,9 +15,10 @@ fn put_effect(out: &mut [u8], at: usize, permit: bool) -> usize
     ensures upper_bound { result ≤ at + 6 }
 {
     if permit {
-        return text::copy::put_bytes(out, at, b"permit");
+        text::copy::put_bytes(out, at, b"permit")
+    } else {
+        text::copy::put_bytes(out, at, b"deny")
     }
-    text::copy::put_bytes(out, at, b"deny")
 }
 
 fn put_directive(out: &mut [u8], at: usize, permit: bool, number: u16) -> usize
@@ -27,7 +28,7 @@ fn put_directive(out: &mut [u8], at: usize, permit: bool, number: u16) -> usize
 {
     let basis = put_effect(out, at, permit);
     let named = text::copy::put_bytes(out, basis, b", basis 3 (directive ");
-    let end = text::decimal::put_decimal(out, named, number as u64);
+    let end = text::decimal::put_decimal(out, named, u64::from(number));
     text::copy::put_bytes(out, end, b")")
 }
 
@@ -40,22 +41,27 @@ fn put_default(out: &mut [u8], at: usize, permit: bool) -> usize
     text::copy::put_bytes(out, basis, b", basis 4 (default)")
 }
 
-pub fn put_answer(out: &mut [u8], at: usize, a: DecideAnswer) -> usize
+pub fn put_answer(out: &mut [u8], at: usize, a: Result<Decision, NotInRegister>) -> usize
     requires { at + 48 ≤ length out.old }
     ensures puts { Puts out.old at (answer_text (decide_answer a)) out.new result }
     ensures upper_bound { result ≤ at + 48 }
 {
     match a {
-        DecideAnswer::Patient => text::copy::put_bytes(out, at, b"permit, basis 1 (patient)"),
-        DecideAnswer::Author => text::copy::put_bytes(out, at, b"permit, basis 2 (author)"),
-        DecideAnswer::Directive { permit, number } => put_directive(out, at, permit, number),
-        DecideAnswer::Default { permit } => put_default(out, at, permit),
-        DecideAnswer::NotInRegister => text::copy::put_bytes(out, at, b"refused, question 17"),
+        Ok(Decision::Patient) => text::copy::put_bytes(out, at, b"permit, basis 1 (patient)"),
+        Ok(Decision::Author) => text::copy::put_bytes(out, at, b"permit, basis 2 (author)"),
+        Ok(Decision::Directive { permit, number }) => put_directive(out, at, permit, number),
+        Ok(Decision::Default { permit }) => put_default(out, at, permit),
+        Err(NotInRegister) => text::copy::put_bytes(out, at, b"refused, question 17"),
     }
 }
 
 // The decision on record i, from place `at` on; the place after it.
-pub fn put_decision(out: &mut [u8], at: usize, i: usize, a: DecideAnswer) -> usize
+pub fn put_decision(
+    out: &mut [u8],
+    at: usize,
+    i: usize,
+    a: Result<Decision, NotInRegister>,
+) -> usize
     requires { at + 77 ≤ length out.old }
     ensures puts { Puts out.old at (record_word ++ decimal i ++ colon_word ++ answer_text (decide_answer a)) out.new result }
     ensures upper_bound { result ≤ at + 77 }

@@ -1,10 +1,8 @@
 -- What the parts of a replay promise. Free are what stands in the buffer after the line and, after a card or a call that succeeds, what
 -- stands past a count of the ledger; which bytes standard input gives and standard output takes no contract can say.
-use Rattle.std.specs.Prelude.{ℕ, ◌-◌, ◌≡◌, true, false, List, [], length, nat_eq, nat_lt}
-use Rattle.sets.specs.Quantifiers.{pick}
+use Rattle.std.specs.Prelude.{ℕ, ◌-◌, ◌≤◌, ◌≡◌, ◌==◌, true, false, List, [], length, nat_lt, Option, Some, None, IfSome, Result, Ok, Err, IfOk, if◌then◌else◌}
 use Rattle.sets.specs.Numbers.{number_at}
-use Rattle.streams.specs.Reads.{IsPrefixLen}
-use Rattle.streams.specs.declared.Filled.{Filled}
+use Rattle.streams.specs.declared.Failed.{Failed}
 use Rattle.ledger.specs.declared.Ledger.{Ledger}
 use Rattle.ledger.specs.State.{view, empty_ledger}
 use Rattle.ledger.specs.Invariant.{Invariant}
@@ -14,46 +12,39 @@ use Rattle.replay_entries.specs.Entries.{Entry, Said, said_to, after_entry, buff
 use Rattle.text.specs.Text.{line_text}
 use Rattle.text.specs.Puts.{StartsWith}
 use Rattle.program_replay.specs.Lines.{said_text, entry_text, goes_on_after}
-use Rattle.program_replay.specs.declared.input.Part.{Part}
-use Rattle.program_replay.specs.declared.input.Part.TheVariants.{Ended, Cut, Failed, Whole}
+use Rattle.program_replay.specs.declared.input.PartError.{PartError}
+use Rattle.program_replay.specs.declared.input.PartError.TheVariants as Fails
 use Rattle.program_replay.specs.declared.answer.Shown.{Shown}
-use Rattle.program_replay.specs.declared.answer.Turn.{Turn}
 
 -- A head: nothing is there, or not all of it, or all; a failure stays one.
-abbrev pub head_part : Filled → ℕ → Part
-head_part Filled.Failed size = Failed
-head_part (Filled.Bytes n) size = pick (nat_eq n 0) Ended (pick (nat_lt n size) Cut (Whole n))
+abbrev pub head_part : Result ℕ Failed → ℕ → Result (Option ℕ) PartError
+head_part (Err e) size = Err Fails.Failed
+head_part (Ok n) size = if n == 0 then Ok None else (if nat_lt n size then Err Fails.Cut else Ok (Some n))
 
 -- A value: not all of it, or all; a failure stays one.
-abbrev pub value_part : Filled → ℕ → Part
-value_part Filled.Failed size = Failed
-value_part (Filled.Bytes n) size = pick (nat_lt n size) Cut (Whole size)
+abbrev pub value_part : Result ℕ Failed → ℕ → Result ℕ PartError
+value_part (Err e) size = Err Fails.Failed
+value_part (Ok n) size = if nat_lt n size then Err Fails.Cut else Ok size
 
--- the length of the value that was read; none where it does not stand whole
-abbrev pub size_of : Part → ℕ
-size_of Ended = 0
-size_of Cut = 0
-size_of Failed = 0
-size_of (Whole n) = n
+-- A value of n bytes: they have their place in the buffer, and n is what the head's last two bytes write.
+abbrev pub IsValueOf : List ℕ → List ℕ → ℕ → Type 0
+IsValueOf head value n = (n ≤ length value) × (n ≡ number_at (length head - 2) 2 head)
 
--- A part: its length fits the buffer, and where it is whole it is what the head's last two bytes write. Which bytes are read, and so which
--- of the four cases comes, is free.
-pub record PartRead (head value : List ℕ) (p : Part) : Type 0 where
-  pub counts : IsPrefixLen (size_of p) value
-  pub size : (n : ℕ) → p ≡ Whole n → n ≡ number_at (length head - 2) 2 head
+-- A part that is whole has a value. Which bytes are read, and so which of the four cases comes, is free.
+abbrev pub PartRead : List ℕ → List ℕ → Result (Option ℕ) PartError → Type 0
+PartRead head value p = IfOk p (λ part. IfSome part (IsValueOf head value))
 
 -- What an entry is told: its line, with the lent bytes that it shows, and whether the replay goes on.
 pub record Prints (s : Said) (lent : List ℕ) (shown : Shown) (out : List ℕ) : Type 0 where
   pub line : StartsWith out shown.size (said_text s lent)
   pub goes_on : shown.goes_on ≡ goes_on_after s
 
--- A card: its line, and the ledger that it gives, which after a refusal is the empty one itself.
-pub record CardTurn (card : List ℕ) (t : Turn) (out : List ℕ) : Type 0 where
-  pub line : StartsWith out t.shown.size (line_text (card_line card) [])
-  pub ledger : view t.ledger ≡ (reading card).model
-  pub refused : accepted (reading card).answer ≡ false → t.ledger ≡ empty_ledger
-  pub invariant : Invariant t.ledger
-  pub goes_on : t.shown.goes_on ≡ true
+-- A card: its line of this size, and the ledger l that it gives, which after a refusal is the empty one itself.
+pub record CardTurn (card : List ℕ) (l : Ledger) (size : ℕ) (out : List ℕ) : Type 0 where
+  pub line : StartsWith out size (line_text (card_line card) [])
+  pub ledger : view l ≡ (reading card).model
+  pub refused : accepted (reading card).answer ≡ false → l ≡ empty_ledger
+  pub invariant : Invariant l
 
 -- An entry on the ledger l: its line, the ledger `next` after it, which is l itself unless a call succeeds, the lent bytes after it, and
 -- whether the replay goes on.

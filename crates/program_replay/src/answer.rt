@@ -6,8 +6,10 @@ ghost use Rattle.text.specs.Text.{line_text};
 ghost use Rattle.text.specs.Puts.{StartsWith};
 ghost use Rattle.program_replay.specs.Promises.{Prints, CardTurn, EntryTurn};
 
+use card_reading::check::CardLine;
 use ledger::Ledger;
-use replay_entries::entry::EntryAnswer;
+use replay_entries::entry::{self, EntryAnswer, Malformed};
+use replay_entries::line;
 
 // The length of a line, and whether another entry may follow it.
 #[derive(Clone, Copy)]
@@ -16,25 +18,16 @@ pub struct Shown {
     pub goes_on: bool,
 }
 
-// A line, and the ledger after it.
-#[derive(Clone, Copy)]
-pub struct Turn {
-    pub ledger: Ledger,
-    pub shown: Shown,
-}
-
-// The line of an answer at the start of the buffer. A written card stands at the start of the lent bytes.
-fn put_answer(out: &mut [u8], a: EntryAnswer, lent: &[u8]) -> Shown
+// The line of what an entry comes to at the start of the buffer. A written card stands at the start of the lent bytes.
+fn put_answer(out: &mut [u8], a: Result<EntryAnswer, Malformed>, lent: &[u8]) -> Shown
     requires { 85 + 2 * length lent.now ≤ length out.old }
     ensures { Prints (said_of a) lent.now result out.new }
 {
-    let line = replay_entries::line::line_of(a);
-    let numbers = line.numbers;
-    let n = sets::bounds::least(line.bytes, lent.len());
-    let size = text::line::put_line(out, numbers, line.count, &lent[..n]);
+    let line = line::line_of(a);
+    let n = line.bytes.min(lent.len());
     Shown {
-        size: size,
-        goes_on: 0 < line.count,
+        size: text::line::put_line(out, line.numbers(), &lent[..n]),
+        goes_on: a.is_ok(),
     }
 }
 
@@ -43,47 +36,47 @@ pub fn put_malformed(out: &mut [u8]) -> usize
     requires { 85 ≤ length out.old }
     ensures { StartsWith out.new result (line_text [] []) }
 {
-    text::line::put_line(out, [0u64; 4], 0, b"")
+    text::line::put_line(out, &[], b"")
 }
 
-pub fn answer_card(card: &[u8], out: &mut [u8]) -> Turn
+// The line of a card, and the ledger that it gives.
+pub fn answer_card(card: &[u8], out: &mut [u8]) -> (Ledger, usize)
     requires { 85 ≤ length out.old }
-    ensures { CardTurn card.now result out.new }
+    ensures { CardTurn card.now result.0 result.1 out.new }
 {
-    let r = card_reading::read::read(card);
-    let line = card_reading::check::line_of(r);
-    let numbers = [line.refusal, line.records as u64, line.directives as u64, 0];
-    let size = text::line::put_line(out, numbers, 3, &card[..0]);
-    let l = r.ledger;
-    Turn {
-        ledger: l,
-        shown: Shown {
-            size: size,
-            goes_on: true,
-        },
-    }
+    let read = card_reading::read::read(card);
+    let line = CardLine::of(&read);
+    let numbers = [line.refusal, line.records as u64, line.directives as u64];
+    let size = text::line::put_line(out, &numbers, b"");
+    (read.unwrap_or(Ledger::empty()), size)
 }
 
 // One entry of a tag that can change the ledger.
-pub fn answer_call(l: Ledger, tag: u8, value: &[u8], lent: &[u8], out: &mut [u8]) -> Turn
-    requires { (is_call tag ≡ true) × Invariant l × (85 + 2 * length lent.now ≤ length out.old) }
-    ensures { EntryTurn l (entry_of tag value.now) lent.now result.ledger result.shown lent.now out.new }
+pub fn answer_call(
+    ledger: &mut Ledger,
+    tag: u8,
+    value: &[u8],
+    lent: &[u8],
+    out: &mut [u8],
+) -> Shown
+    requires { (is_call tag ≡ true) × Invariant ledger.old × (85 + 2 * length lent.now ≤ length out.old) }
+    ensures { EntryTurn ledger.old (entry_of tag value.now) lent.now ledger.new result lent.now out.new }
 {
-    let r = replay_entries::entry::run_call(l, tag, value);
-    let answer = r.answer;
-    let shown = put_answer(out, answer, lent);
-    let next = r.ledger;
-    Turn {
-        ledger: next,
-        shown: shown,
-    }
+    let a = entry::run_call(ledger, tag, value);
+    put_answer(out, a, lent)
 }
 
 // One entry of any other tag, which leaves the ledger: a write is lent the start of the bytes `lent`.
-pub fn answer_query(l: Ledger, tag: u8, value: &[u8], lent: &mut [u8], out: &mut [u8]) -> Shown
-    requires { (is_call tag ≡ false) × Invariant l × (85 + 2 * length lent.old ≤ length out.old) }
-    ensures { EntryTurn l (entry_of tag value.now) lent.old l result lent.new out.new }
+pub fn answer_query(
+    ledger: &Ledger,
+    tag: u8,
+    value: &[u8],
+    lent: &mut [u8],
+    out: &mut [u8],
+) -> Shown
+    requires { (is_call tag ≡ false) × Invariant ledger.now × (85 + 2 * length lent.old ≤ length out.old) }
+    ensures { EntryTurn ledger.now (entry_of tag value.now) lent.old ledger.now result lent.new out.new }
 {
-    let a = replay_entries::entry::run_query(l, tag, value, lent);
+    let a = entry::run_query(ledger, tag, value, lent);
     put_answer(out, a, lent)
 }

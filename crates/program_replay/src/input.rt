@@ -3,68 +3,64 @@ ghost use Rattle.std.specs.Prelude.{◌≡◌, ◌≤◌, length};
 ghost use Rattle.program_replay.specs.Promises.{head_part, value_part, PartRead};
 
 use std::io::Read;
-use streams::Filled;
+use streams::Failed;
 
-#[derive(Clone, Copy)]
-pub enum Part {
-    // nothing stands there
-    Ended,
+// Why a part is not there as a whole.
+#[derive(Clone, Copy, Debug, PartialEq, Eq)]
+pub enum PartError {
     // a head or a value does not stand whole
     Cut,
     // a read failed
     Failed,
-    // the length of the value
-    Whole(usize),
 }
 
-// What was read of a head of so many bytes.
-fn head_part(filled: Filled, size: usize) -> Part
-    ensures { result ≡ head_part filled size }
+impl From<Failed> for PartError {
+    ghost use Rattle.program_replay.specs.declared.input.PartError.TheVariants as Fails;
+
+    ghost from_gives = { λ _ error. error ≡ Fails.Failed };
+
+    fn from(_: Failed) -> PartError {
+        PartError::Failed
+    }
+}
+
+// What was read of a head of so many bytes; none where nothing stands there.
+fn head_part(got: Result<usize, Failed>, size: usize) -> Result<Option<usize>, PartError>
+    ensures { result ≡ head_part got size }
 {
-    let Filled::Bytes(n) = filled else {
-        return Part::Failed;
-    };
-    if n == 0 {
-        return Part::Ended;
+    match got? {
+        0 => Ok(None),
+        n if n < size => Err(PartError::Cut),
+        n => Ok(Some(n)),
     }
-    if n < size {
-        return Part::Cut;
-    }
-    Part::Whole(n)
 }
 
 // What was read of a value of so many bytes.
-fn value_part(filled: Filled, size: usize) -> Part
-    ensures { result ≡ value_part filled size }
+fn value_part(got: Result<usize, Failed>, size: usize) -> Result<usize, PartError>
+    ensures { result ≡ value_part got size }
 {
-    let Filled::Bytes(n) = filled else {
-        return Part::Failed;
-    };
-    if n < size {
-        return Part::Cut;
+    if got? < size {
+        return Err(PartError::Cut);
     }
-    Part::Whole(size)
+    Ok(size)
 }
 
-// Reads a head, and a value of the length that the head's last two bytes give. Any such length has room in `value`.
+// Reads a head, and a value of the length that the head's last two bytes give, and answers that length; none where nothing stands there.
+// Any such length has room in `value`.
 pub fn read_part<E: Eprint, R: Read>(
     rt: &E,
     input: &mut R,
     head: &mut [u8],
     value: &mut [u8],
-) -> Part
+) -> Result<Option<usize>, PartError>
     requires { (2 ≤ length head.old) × (65535 ≤ length value.old) }
     ensures { PartRead head.new value.new result }
 {
     let got = streams::fill(rt, input, head);
-    let first = head_part(got, head.len());
-    match first {
-        Part::Ended => return Part::Ended,
-        Part::Cut => return Part::Cut,
-        Part::Failed => return Part::Failed,
-        Part::Whole(_) => {}
+    if head_part(got, head.len())?.is_none() {
+        return Ok(None);
     }
-    let size = sets::number::get2(head, head.len() - 2) as usize;
+    let size = usize::from(sets::number::get2(head, head.len() - 2));
     let more = streams::fill(rt, input, &mut value[..size]);
-    value_part(more, size)
+    value_part(more, size).map(Some)
 }

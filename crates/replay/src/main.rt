@@ -4,5 +4,5 @@
 use std::process::ExitCode;
 
 fn main(rt: HostRuntime) -> ExitCode {
-    streams::exit_code(program_replay::replay_main(&rt, &mut rt.stdin(), &mut rt.stdout()))
+    program_replay::replay_main(&rt, &mut rt.stdin(), &mut rt.stdout()).into()
 }

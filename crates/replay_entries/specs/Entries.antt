@@ -1,5 +1,5 @@
 -- A replay: a card, and calls on the ledger that it gives, each a tag and a value. What each entry means, answers and prints.
-use Rattle.std.specs.Prelude.{ℕ, ◌≡◌, Bool, false, ◌||◌, List, [], ◌++◌, length, take, drop, slice_index_or, nat_eq, nat_le}
+use Rattle.std.specs.Prelude.{ℕ, ◌≡◌, Bool, false, ◌||◌, List, [], ◌++◌, length, take, drop, slice_index_or, nat_eq, nat_le, Result, Ok, Err}
 use Rattle.sets.specs.Quantifiers.{pick}
 use Rattle.sets.specs.Numbers.{number_at}
 use Rattle.directive.specs.declared.Query.{Query}
@@ -13,13 +13,14 @@ use Rattle.ledger.specs.Answer.{commit_answer, revoke_answer, advance_answer, is
 use Rattle.ledger_model.specs.Calls.{Call, commit, revoke, advance, issue, called_by, decided, briefed}
 use Rattle.ledger_model.specs.Preview.{previewed}
 use Rattle.ledger.specs.Invariant.{Invariant}
+use Rattle.ledger.specs.Promises.{After}
 use Rattle.ledger_preview.specs.Answer.{preview_answer}
 use Rattle.card.specs.Answer.{write_answer}
 use Rattle.card.specs.Writing.{writing, buffered}
 use Rattle.replay_entries.specs.declared.entry.EntryAnswer.{EntryAnswer}
 use Rattle.replay_entries.specs.declared.entry.EntryAnswer.TheVariants as Case
-use Rattle.replay_entries.specs.declared.entry.EntryResult.{EntryResult}
-use Rattle.replay_entries.specs.declared.line.Line.{Line}
+use Rattle.replay_entries.specs.declared.entry.Malformed.{Malformed}
+use Rattle.replay_entries.specs.declared.shown.Line.{Line}
 
 -- An entry: a call that can change the ledger, a decide, a brief for a number and a person, a write into a buffer of a length, a preview
 -- of a draft's bytes for a requester.
@@ -123,16 +124,23 @@ pub data Said : Type 0 where
   says : ℕ → Answer → Said
   nothing : Said
 
-abbrev pub said_of : EntryAnswer → Said
-said_of (Case.Commit a) = says 0x10 (commit_answer a)
-said_of (Case.Revoke a) = says 0x11 (revoke_answer a)
-said_of (Case.Advance a) = says 0x12 (advance_answer a)
-said_of (Case.Issue a) = says 0x13 (issue_answer a)
-said_of (Case.Decide a) = says 0x14 (decide_answer a)
-said_of (Case.Brief a) = says 0x15 (brief_answer a)
-said_of (Case.Write a) = says 0x16 (write_answer a)
-said_of (Case.Preview a) = says 0x17 (preview_answer a)
-said_of Case.Malformed = nothing
+abbrev pub answer_of : EntryAnswer → Said
+answer_of (Case.Commit a) = says 0x10 (commit_answer a)
+answer_of (Case.Revoke a) = says 0x11 (revoke_answer a)
+answer_of (Case.Advance a) = says 0x12 (advance_answer a)
+answer_of (Case.Issue a) = says 0x13 (issue_answer a)
+answer_of (Case.Decide a) = says 0x14 (decide_answer a)
+answer_of (Case.Brief a) = says 0x15 (brief_answer a)
+answer_of (Case.Write a) = says 0x16 (write_answer a)
+answer_of (Case.Preview a) = says 0x17 (preview_answer a)
+
+-- what an entry comes to
+abbrev pub EntryReply : Type 0
+EntryReply = Result EntryAnswer Malformed
+
+abbrev pub said_of : EntryReply → Said
+said_of (Ok a) = answer_of a
+said_of (Err m) = nothing
 
 -- the tag of a call
 abbrev pub call_tag : Call → ℕ
@@ -183,19 +191,23 @@ changes malformed s = false
 
 -- One entry on a ledger that keeps the invariant: the answer, the ledger's view and the buffer are the model's; a call that is refused
 -- gives back the ledger itself, as does every entry that is no call. What stands past a count after a successful call is free.
-pub record Performed (l : Ledger) (e : Entry) (before : List ℕ) (a : EntryAnswer) (next : Ledger) (after : List ℕ) : Type 0 where
+pub record Performed (l : Ledger) (e : Entry) (before : List ℕ) (a : EntryReply) (next : Ledger) (after : List ℕ) : Type 0 where
   pub answer : said_of a ≡ said_to (view l) e before
   pub ledger : view next ≡ after_entry (view l) e
   pub unchanged : changes e (said_of a) ≡ false → next ≡ l
   pub buffer : after ≡ buffer_after (view l) e before
   pub invariant : Invariant next
 
+-- A call's reply, and the ledger after it.
+abbrev pub EntryResult : Type 0
+EntryResult = After EntryReply
+
 -- A call: it is lent no buffer, and leaves any.
 abbrev pub Performs : Ledger → Entry → EntryResult → Type 0
 Performs l e r = Invariant l → (buffer : List ℕ) → Performed l e buffer r.answer r.ledger buffer
 
 -- A query gives an answer and no ledger: the ledger after it is l itself.
-abbrev pub Answers : Ledger → Entry → List ℕ → EntryAnswer → List ℕ → Type 0
+abbrev pub Answers : Ledger → Entry → List ℕ → EntryReply → List ℕ → Type 0
 Answers l e before a after = Invariant l → Performed l e before a l after
 
 -- The numbers of a line: 0 and the values, or the number of the question missed and what it adds.

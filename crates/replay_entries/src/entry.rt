@@ -1,106 +1,75 @@
 // One call as a replay writes it: a tag and a value.
-ghost use Rattle.std.specs.Prelude.{◌≡◌, List, ℕ, ◌≤◌, length};
+ghost use Rattle.std.specs.Prelude.{◌≡◌, ◌≢◌, List, ℕ, ◌≤◌, length, MatchResult};
+ghost use Rattle.ledger.specs.Promises.{after};
 ghost use Rattle.replay_entries.specs.Entries.{query_size, query_of, requester_size, requester_of, is_call, commit_entry, revoke_entry, advance_entry, issue_entry, decide_entry, brief_entry, write_entry, preview_entry, call_entry, query_entry, Performs, Answers};
 
-use card::WriteAnswer;
+use card::WriteRefusal;
 use directive::{Query, Requester};
+use emergency::Brief;
 use ledger::Ledger;
 use ledger::answer::{
-    AdvanceAnswer, BriefAnswer, CommitAnswer, DecideAnswer, IssueAnswer, RevokeAnswer,
+    BeforeClock, CommitRefusal, Decision, Dropped, IssueRefusal, NoToken, NotActive, NotInRegister,
 };
-use ledger_preview::PreviewAnswer;
+use ledger_preview::PreviewRefusal;
+use sets::number::BigEndian;
 
-// One case a call; a tag or a length that no call has is malformed.
+// One case a call.
 #[derive(Clone, Copy)]
 pub enum EntryAnswer {
-    Commit(CommitAnswer),
-    Revoke(RevokeAnswer),
-    Advance(AdvanceAnswer),
-    Issue(IssueAnswer),
-    Decide(DecideAnswer),
-    Brief(BriefAnswer),
-    Write(WriteAnswer),
-    Preview(PreviewAnswer),
-    Malformed,
+    Commit(Result<(), CommitRefusal>),
+    Revoke(Result<(), NotActive>),
+    Advance(Result<Dropped, BeforeClock>),
+    Issue(Result<(), IssueRefusal>),
+    Decide(Result<Decision, NotInRegister>),
+    Brief(Result<Brief, NoToken>),
+    Write(Result<usize, WriteRefusal>),
+    Preview(Result<Brief, PreviewRefusal>),
 }
 
-// A call that can change the ledger gives it back beside its answer.
+// A tag or a length that no call has.
 #[derive(Clone, Copy)]
-pub struct EntryResult {
-    pub answer: EntryAnswer,
-    pub ledger: Ledger,
+pub struct Malformed;
+
+// Whether the value has the length.
+pub fn has_length(v: &[u8], n: usize) -> Result<(), Malformed>
+    ensures { MatchResult result (λ _. length v.now ≡ n) (λ _. length v.now ≢ n) }
+{
+    if v.len() != n {
+        return Err(Malformed);
+    }
+    Ok(())
 }
 
-fn commit_entry(l: Ledger, v: &[u8]) -> EntryResult
-    ensures { Performs l (commit_entry v.now) result }
+fn commit_entry(ledger: &mut Ledger, v: &[u8]) -> Result<EntryAnswer, Malformed>
+    ensures { Performs ledger.old (commit_entry v.now) (after result ledger.new) }
 {
-    let r = ledger::commit::commit(l, v);
-    let answer = r.answer;
-    let next = r.ledger;
-    EntryResult {
-        answer: EntryAnswer::Commit(answer),
-        ledger: next,
-    }
+    Ok(EntryAnswer::Commit(ledger.commit(v)))
 }
 
-fn revoke_entry(l: Ledger, v: &[u8]) -> EntryResult
-    ensures { Performs l (revoke_entry v.now) result }
+fn revoke_entry(ledger: &mut Ledger, v: &[u8]) -> Result<EntryAnswer, Malformed>
+    ensures { Performs ledger.old (revoke_entry v.now) (after result ledger.new) }
 {
-    if v.len() != 2 {
-        return EntryResult {
-            answer: EntryAnswer::Malformed,
-            ledger: l,
-        };
-    }
-    let r = ledger::calls::revoke(l, sets::number::get2(v, 0));
-    let answer = r.answer;
-    let next = r.ledger;
-    EntryResult {
-        answer: EntryAnswer::Revoke(answer),
-        ledger: next,
-    }
+    has_length(v, 2)?;
+    Ok(EntryAnswer::Revoke(ledger.revoke(u16::get(v, 0))))
 }
 
-fn advance_entry(l: Ledger, v: &[u8]) -> EntryResult
-    ensures { Performs l (advance_entry v.now) result }
+fn advance_entry(ledger: &mut Ledger, v: &[u8]) -> Result<EntryAnswer, Malformed>
+    ensures { Performs ledger.old (advance_entry v.now) (after result ledger.new) }
 {
-    if v.len() != 4 {
-        return EntryResult {
-            answer: EntryAnswer::Malformed,
-            ledger: l,
-        };
-    }
-    let r = ledger::calls::advance(l, sets::number::get4(v, 0));
-    let answer = r.answer;
-    let next = r.ledger;
-    EntryResult {
-        answer: EntryAnswer::Advance(answer),
-        ledger: next,
-    }
+    has_length(v, 4)?;
+    Ok(EntryAnswer::Advance(ledger.advance(u32::get(v, 0))))
 }
 
-fn issue_entry(l: Ledger, v: &[u8]) -> EntryResult
-    ensures { Performs l (issue_entry v.now) result }
+fn issue_entry(ledger: &mut Ledger, v: &[u8]) -> Result<EntryAnswer, Malformed>
+    ensures { Performs ledger.old (issue_entry v.now) (after result ledger.new) }
 {
-    if v.len() != 9 {
-        return EntryResult {
-            answer: EntryAnswer::Malformed,
-            ledger: l,
-        };
-    }
-    let r = ledger::calls::issue(
-        l,
-        sets::number::get2(v, 0),
-        sets::number::get2(v, 2),
-        sets::number::get1(v, 4),
-        sets::number::get4(v, 5),
-    );
-    let answer = r.answer;
-    let next = r.ledger;
-    EntryResult {
-        answer: EntryAnswer::Issue(answer),
-        ledger: next,
-    }
+    has_length(v, 9)?;
+    Ok(EntryAnswer::Issue(ledger.issue(
+        u16::get(v, 0),
+        u16::get(v, 2),
+        u8::get(v, 4),
+        u32::get(v, 5),
+    )))
 }
 
 // The query of a decide's value.
@@ -109,45 +78,35 @@ pub fn query_of(v: &[u8]) -> Query
     ensures { result ≡ query_of v.now }
 {
     Query {
-        person: sets::number::get2(v, 0),
-        role: sets::number::get2(v, 2),
-        origin: sets::number::get1(v, 4),
-        record: sets::number::get1(v, 5),
-        purpose: sets::number::get1(v, 6),
+        person: u16::get(v, 0),
+        role: u16::get(v, 2),
+        origin: u8::get(v, 4),
+        record: u8::get(v, 5),
+        purpose: u8::get(v, 6),
     }
 }
 
-fn decide_entry(l: Ledger, v: &[u8]) -> EntryAnswer
-    ensures { (buffer : List ℕ) → Answers l (decide_entry v.now) buffer result buffer }
+fn decide_entry(ledger: &Ledger, v: &[u8]) -> Result<EntryAnswer, Malformed>
+    ensures { (buffer : List ℕ) → Answers ledger.now (decide_entry v.now) buffer result buffer }
 {
-    if v.len() != 7 {
-        return EntryAnswer::Malformed;
-    }
-    let answer = ledger::decision::decide(l, query_of(v));
-    EntryAnswer::Decide(answer)
+    has_length(v, 7)?;
+    Ok(EntryAnswer::Decide(ledger.decide(query_of(v))))
 }
 
-fn brief_entry(l: Ledger, v: &[u8]) -> EntryAnswer
-    ensures { (buffer : List ℕ) → Answers l (brief_entry v.now) buffer result buffer }
+fn brief_entry(ledger: &Ledger, v: &[u8]) -> Result<EntryAnswer, Malformed>
+    ensures { (buffer : List ℕ) → Answers ledger.now (brief_entry v.now) buffer result buffer }
 {
-    if v.len() != 4 {
-        return EntryAnswer::Malformed;
-    }
-    let answer = ledger::calls::brief(l, sets::number::get2(v, 0), sets::number::get2(v, 2));
-    EntryAnswer::Brief(answer)
+    has_length(v, 4)?;
+    Ok(EntryAnswer::Brief(ledger.brief(u16::get(v, 0), u16::get(v, 2))))
 }
 
 // Writes into the start of the buffer, or into all of it where it is shorter than the length asked for.
-fn write_entry(l: Ledger, v: &[u8], buffer: &mut [u8]) -> EntryAnswer
-    ensures { Answers l (write_entry v.now) buffer.old result buffer.new }
+fn write_entry(ledger: &Ledger, v: &[u8], buffer: &mut [u8]) -> Result<EntryAnswer, Malformed>
+    ensures { Answers ledger.now (write_entry v.now) buffer.old result buffer.new }
 {
-    if v.len() != 2 {
-        return EntryAnswer::Malformed;
-    }
-    let size = sets::number::get2(v, 0) as usize;
-    let n = sets::bounds::least(size, buffer.len());
-    let answer = card_writing::write::write(l, &mut buffer[..n]);
-    EntryAnswer::Write(answer)
+    has_length(v, 2)?;
+    let n = usize::from(u16::get(v, 0)).min(buffer.len());
+    Ok(EntryAnswer::Write(card_writing::write::write(ledger, &mut buffer[..n])))
 }
 
 // The requester at the start of a preview's value.
@@ -156,64 +115,62 @@ fn requester_of(v: &[u8]) -> Requester
     ensures { result ≡ requester_of v.now }
 {
     Requester {
-        person: sets::number::get2(v, 0),
-        role: sets::number::get2(v, 2),
-        origin: sets::number::get1(v, 4),
-        purpose: sets::number::get1(v, 5),
+        person: u16::get(v, 0),
+        role: u16::get(v, 2),
+        origin: u8::get(v, 4),
+        purpose: u8::get(v, 5),
     }
 }
 
 // The draft is all that follows the requester.
-fn preview_entry(l: Ledger, v: &[u8]) -> EntryAnswer
-    ensures { (buffer : List ℕ) → Answers l (preview_entry v.now) buffer result buffer }
+fn preview_entry(ledger: &Ledger, v: &[u8]) -> Result<EntryAnswer, Malformed>
+    ensures { (buffer : List ℕ) → Answers ledger.now (preview_entry v.now) buffer result buffer }
 {
     if v.len() < 6 {
-        return EntryAnswer::Malformed;
+        return Err(Malformed);
     }
-    let w = requester_of(v);
-    let r = ledger_preview::preview(l, &v[6..], w);
-    let answer = r.answer;
-    EntryAnswer::Preview(answer)
+    let changes = ledger_preview::preview(ledger, &v[6..], requester_of(v));
+    Ok(EntryAnswer::Preview(changes))
 }
 
 // Whether the tag is of a call that can change the ledger.
+#[tactic(auto, unfolding(crate::specs::Entries::is_call))]
 pub fn is_call(tag: u8) -> bool
     ensures { result ≡ is_call tag }
 {
-    match tag {
-        0x10 => true,
-        0x11 => true,
-        0x12 => true,
-        0x13 => true,
-        _ => false,
-    }
+    matches!(tag, 0x10..=0x13)
 }
 
-// The call of this tag and value, on this ledger; the tag of a query is malformed here.
-pub fn run_call(l: Ledger, tag: u8, v: &[u8]) -> EntryResult
-    ensures { Performs l (call_entry tag v.now) result }
+// The call of this tag and value, on this ledger; the tag of a query is malformed here. Each tag stands once, beside its call: an enum of
+// them would say each twice more.
+#[tactic(auto, unfolding(crate::specs::Entries::entry_of, crate::specs::Entries::is_call))]
+pub fn run_call(ledger: &mut Ledger, tag: u8, v: &[u8]) -> Result<EntryAnswer, Malformed>
+    ensures { Performs ledger.old (call_entry tag v.now) (after result ledger.new) }
 {
     match tag {
-        0x10 => commit_entry(l, v),
-        0x11 => revoke_entry(l, v),
-        0x12 => advance_entry(l, v),
-        0x13 => issue_entry(l, v),
-        _ => EntryResult {
-            answer: EntryAnswer::Malformed,
-            ledger: l,
-        },
+        0x10 => commit_entry(ledger, v),
+        0x11 => revoke_entry(ledger, v),
+        0x12 => advance_entry(ledger, v),
+        0x13 => issue_entry(ledger, v),
+        _ => Err(Malformed),
     }
 }
 
 // The query of this tag and value, on this ledger: a write is lent the start of the buffer; the tag of a call is malformed here.
-pub fn run_query(l: Ledger, tag: u8, v: &[u8], buffer: &mut [u8]) -> EntryAnswer
-    ensures { Answers l (query_entry tag v.now) buffer.old result buffer.new }
+#[tactic(auto, unfolding(crate::specs::Entries::entry_of, crate::specs::Entries::is_call))]
+pub fn run_query(
+    ledger: &Ledger,
+    tag: u8,
+    v: &[u8],
+    buffer: &mut [u8],
+) -> Result<EntryAnswer, Malformed>
+    ensures { Answers ledger.now (query_entry tag v.now) buffer.old result buffer.new }
 {
     match tag {
-        0x14 => decide_entry(l, v),
-        0x15 => brief_entry(l, v),
-        0x16 => write_entry(l, v, buffer),
-        0x17 => preview_entry(l, v),
-        _ => EntryAnswer::Malformed,
+        0x14 => decide_entry(ledger, v),
+        0x15 => brief_entry(ledger, v),
+        0x16 => write_entry(ledger, v, buffer),
+        0x17 => preview_entry(ledger, v),
+        _ => Err(Malformed),
     }
 }

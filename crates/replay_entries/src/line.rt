@@ -1,166 +1,141 @@
-// The line of an entry's answer before it is printed: its numbers, and how many bytes of the lent buffer follow them.
-ghost use Rattle.std.specs.Prelude.{◌≡◌, [], ◌∷◌, ◌≤◌, take};
-ghost use Rattle.sets.specs.Quantifiers.{one_if};
-ghost use Rattle.ledger.specs.Answer.{directive_answer, commit_answer, revoke_answer, advance_answer, issue_answer, brief_answer, decide_answer};
+// The line of each answer.
+ghost use Rattle.std.specs.Prelude.{◌≡◌};
+ghost use Rattle.ledger.specs.Answer.{directive_refusal, commit_refusal, commit_answer, revoke_answer, advance_answer, issue_answer, brief_answer, decide_answer};
 ghost use Rattle.ledger_preview.specs.Answer.{preview_answer};
 ghost use Rattle.card.specs.Answer.{write_answer};
 ghost use Rattle.ledger_model.specs.Answer.{answer_line};
 ghost use Rattle.replay_entries.specs.Entries.{said_of, line_of, length_of, shown_of, Shows};
 
-use crate::entry::EntryAnswer;
-use card::WriteAnswer;
+use crate::entry::{EntryAnswer, Malformed};
+use crate::shown::Line;
+use card::WriteRefusal;
+use emergency::Brief;
 use ledger::answer::{
-    AdvanceAnswer, BriefAnswer, CommitAnswer, DecideAnswer, DirectiveRefusal, IssueAnswer,
-    RevokeAnswer,
+    BeforeClock, CommitRefusal, Decision, DirectiveRefusal, Dropped, IssueRefusal, NoToken,
+    NotActive, NotInRegister,
 };
-use ledger_preview::PreviewAnswer;
-
-// The first `count` of the numbers stand in the line, then the first `bytes` of the lent buffer. A line without numbers is that
-// of a malformed entry.
-#[derive(Clone, Copy)]
-pub struct Line {
-    pub numbers: [u64; 4],
-    pub count: usize,
-    pub bytes: usize,
-}
-
-fn numbered(count: usize, a: u64, b: u64, c: u64, d: u64) -> Line
-    requires { count ≤ 4 }
-    ensures { Shows result (take count (a ∷ b ∷ c ∷ d ∷ [])) 0 }
-{
-    let numbers = [a, b, c, d];
-    Line {
-        numbers: numbers,
-        count: count,
-        bytes: 0,
-    }
-}
-
-fn effect_number(permit: bool) -> u64
-    ensures { result ≡ one_if permit }
-{
-    if permit { 1 } else { 0 }
-}
+use ledger_preview::PreviewRefusal;
 
 // The number of the question missed; a conflict also names a directive.
-fn directive_line(why: DirectiveRefusal) -> Line
-    ensures { Shows result (answer_line (directive_answer why)) 0 }
+pub fn directive_line(why: DirectiveRefusal) -> Line
+    ensures { Shows result (answer_line (directive_refusal why)) 0 }
 {
-    let refusal = ledger::answer::refusal_of(why);
+    let question = why.question();
     match why {
-        DirectiveRefusal::Conflicts(number) => numbered(2, refusal, number as u64, 0, 0),
-        _ => numbered(1, refusal, 0, 0, 0),
+        DirectiveRefusal::Conflicts(number) => Line::of(&[question, u64::from(number)]),
+        _ => Line::of(&[question]),
     }
 }
 
-fn commit_line(a: CommitAnswer) -> Line
+// The same of a draft.
+fn refusal_line(why: CommitRefusal) -> Line
+    ensures { Shows result (answer_line (commit_refusal why)) 0 }
+{
+    match why {
+        CommitRefusal::Directive(directive) => directive_line(directive),
+        _ => Line::of(&[why.question()]),
+    }
+}
+
+fn commit_line(a: Result<(), CommitRefusal>) -> Line
     ensures { Shows result (answer_line (commit_answer a)) 0 }
 {
     match a {
-        CommitAnswer::Committed => numbered(1, 0, 0, 0, 0),
-        CommitAnswer::WrongLength => numbered(1, 6, 0, 0, 0),
-        CommitAnswer::Refused(why) => directive_line(why),
-        CommitAnswer::Redundant => numbered(1, 14, 0, 0, 0),
+        Ok(()) => Line::of(&[0]),
+        Err(why) => refusal_line(why),
     }
 }
 
-fn revoke_line(a: RevokeAnswer) -> Line
+fn revoke_line(a: Result<(), NotActive>) -> Line
     ensures { Shows result (answer_line (revoke_answer a)) 0 }
 {
     match a {
-        RevokeAnswer::Revoked => numbered(1, 0, 0, 0, 0),
-        RevokeAnswer::NotActive => numbered(1, 15, 0, 0, 0),
+        Ok(()) => Line::of(&[0]),
+        Err(NotActive) => Line::of(&[15]),
     }
 }
 
-fn advance_line(a: AdvanceAnswer) -> Line
+fn advance_line(a: Result<Dropped, BeforeClock>) -> Line
     ensures { Shows result (answer_line (advance_answer a)) 0 }
 {
     match a {
-        AdvanceAnswer::Advanced { directives, tokens } => {
-            numbered(3, 0, directives as u64, tokens as u64, 0)
-        }
-        AdvanceAnswer::BeforeClock => numbered(1, 16, 0, 0, 0),
+        Ok(dropped) => Line::of(&[0, dropped.directives as u64, dropped.tokens as u64]),
+        Err(BeforeClock) => Line::of(&[16]),
     }
 }
 
-fn issue_line(a: IssueAnswer) -> Line
+fn issue_line(a: Result<(), IssueRefusal>) -> Line
     ensures { Shows result (answer_line (issue_answer a)) 0 }
 {
     match a {
-        IssueAnswer::Issued => numbered(1, 0, 0, 0, 0),
-        IssueAnswer::NoState => numbered(1, 18, 0, 0, 0),
-        IssueAnswer::WrongMinutes => numbered(1, 19, 0, 0, 0),
-        IssueAnswer::NumberTaken => numbered(1, 20, 0, 0, 0),
-        IssueAnswer::TokensFull => numbered(1, 21, 0, 0, 0),
+        Ok(()) => Line::of(&[0]),
+        Err(IssueRefusal::NoState) => Line::of(&[18]),
+        Err(IssueRefusal::WrongMinutes) => Line::of(&[19]),
+        Err(IssueRefusal::NumberTaken) => Line::of(&[20]),
+        Err(IssueRefusal::TokensFull) => Line::of(&[21]),
     }
 }
 
-fn decide_line(a: DecideAnswer) -> Line
+fn decide_line(a: Result<Decision, NotInRegister>) -> Line
     ensures { Shows result (answer_line (decide_answer a)) 0 }
 {
     match a {
-        DecideAnswer::Patient => numbered(3, 0, 1, 1, 0),
-        DecideAnswer::Author => numbered(3, 0, 1, 2, 0),
-        DecideAnswer::Directive { permit, number } => {
-            numbered(4, 0, effect_number(permit), 3, number as u64)
+        Ok(Decision::Patient) => Line::of(&[0, 1, 1]),
+        Ok(Decision::Author) => Line::of(&[0, 1, 2]),
+        Ok(Decision::Directive { permit, number }) => {
+            Line::of(&[0, u64::from(permit), 3, u64::from(number)])
         }
-        DecideAnswer::Default { permit } => numbered(3, 0, effect_number(permit), 4, 0),
-        DecideAnswer::NotInRegister => numbered(1, 17, 0, 0, 0),
+        Ok(Decision::Default { permit }) => Line::of(&[0, u64::from(permit), 4]),
+        Err(NotInRegister) => Line::of(&[17]),
     }
 }
 
-fn brief_line(a: BriefAnswer) -> Line
+fn brief_line(a: Result<Brief, NoToken>) -> Line
     ensures { Shows result (answer_line (brief_answer a)) 0 }
 {
     match a {
-        BriefAnswer::Disclosed(b) => numbered(4, 0, b.low, b.high, b.count as u64),
-        BriefAnswer::NoToken => numbered(1, 22, 0, 0, 0),
+        Ok(Brief { records, count }) => Line::of(&[0, records.low, records.high, u64::from(count)]),
+        Err(NoToken) => Line::of(&[22]),
     }
 }
 
 // The bytes of a written card stand at the start of the lent buffer.
-fn write_line(a: WriteAnswer) -> Line
+fn write_line(a: Result<usize, WriteRefusal>) -> Line
     ensures { Shows result (answer_line (write_answer a)) (length_of (write_answer a)) }
 {
     match a {
-        WriteAnswer::Written(size) => {
-            let mut line = numbered(2, 0, size as u64, 0, 0);
+        Ok(size) => {
+            let mut line = Line::of(&[0, size as u64]);
             line.bytes = size;
             line
         }
-        WriteAnswer::NoRecord => numbered(1, 23, 0, 0, 0),
-        WriteAnswer::BufferTooShort => numbered(1, 24, 0, 0, 0),
+        Err(why) => Line::of(&[why.question()]),
     }
 }
 
-// A draft that would be refused has the line of its commit.
-fn preview_line(a: PreviewAnswer) -> Line
+// What would change, as a brief; a draft that would be refused has the line of its commit.
+fn preview_line(a: Result<Brief, PreviewRefusal>) -> Line
     ensures { Shows result (answer_line (preview_answer a)) 0 }
 {
     match a {
-        PreviewAnswer::Changes { records, count } => {
-            numbered(4, 0, records.low, records.high, count as u64)
-        }
-        PreviewAnswer::WrongLength => commit_line(CommitAnswer::WrongLength),
-        PreviewAnswer::Refused(why) => commit_line(CommitAnswer::Refused(why)),
-        PreviewAnswer::Redundant => commit_line(CommitAnswer::Redundant),
-        PreviewAnswer::RequesterOutOfRange => numbered(1, 17, 0, 0, 0),
+        Ok(changes) => brief_line(Ok(changes)),
+        Err(PreviewRefusal::Commit(why)) => refusal_line(why),
+        Err(PreviewRefusal::RequesterOutOfRange) => Line::of(&[17]),
     }
 }
 
-pub fn line_of(a: EntryAnswer) -> Line
-    ensures { Shows result (line_of (said_of a)) (shown_of (said_of a)) }
+pub fn line_of(entry: Result<EntryAnswer, Malformed>) -> Line
+    ensures { Shows result (line_of (said_of entry)) (shown_of (said_of entry)) }
 {
-    match a {
-        EntryAnswer::Commit(b) => commit_line(b),
-        EntryAnswer::Revoke(b) => revoke_line(b),
-        EntryAnswer::Advance(b) => advance_line(b),
-        EntryAnswer::Issue(b) => issue_line(b),
-        EntryAnswer::Decide(b) => decide_line(b),
-        EntryAnswer::Brief(b) => brief_line(b),
-        EntryAnswer::Write(b) => write_line(b),
-        EntryAnswer::Preview(b) => preview_line(b),
-        EntryAnswer::Malformed => numbered(0, 0, 0, 0, 0),
+    match entry {
+        Ok(EntryAnswer::Commit(a)) => commit_line(a),
+        Ok(EntryAnswer::Revoke(a)) => revoke_line(a),
+        Ok(EntryAnswer::Advance(a)) => advance_line(a),
+        Ok(EntryAnswer::Issue(a)) => issue_line(a),
+        Ok(EntryAnswer::Decide(a)) => decide_line(a),
+        Ok(EntryAnswer::Brief(a)) => brief_line(a),
+        Ok(EntryAnswer::Write(a)) => write_line(a),
+        Ok(EntryAnswer::Preview(a)) => preview_line(a),
+        Err(Malformed) => Line::of(&[]),
     }
 }

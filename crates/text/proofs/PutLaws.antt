@@ -1,13 +1,16 @@
--- Laws of text that is put into a buffer: none, text after text, the same number of places for each element of a list, the text
--- that a buffer begins with, and text whose last element is stored first.
-use Prim.Native.Nat.{ℕ, suc, ◌+◌, ◌*◌, ◌≤◌}
+-- Laws of text that is put into a buffer: none, text after text, a part that is written as a whole, one element, the text that a
+-- buffer begins with, and text whose last element is stored first.
+use Prim.Native.Nat.{ℕ, suc, ◌+◌, ◌≤◌}
 use mathlib.Core.Path.{◌≡◌, refl, sym, ap, ◌∙◌}
-use mathlib.Core.List.{List, [], ◌∷◌, ◌++◌}
+use mathlib.Core.List.{List, [], ◌∷◌, ◌++◌, append_assoc}
 use native.Mathlib.Nat.{add-zero, zero-add, add_assoc, add-suc, suc-add}
 use native.Mathlib.Omega.{arith}
 use lib.ListN.{length, take, drop, set}
-use lib.Seq.{sets, sets-eq, set_comm, length-sets, take_at, take-length, length-take-le}
-use Rattle.sets.proofs.PutLaws.{Put, put_more, Filled, filled_all}
+use lib.Seq.{sets, sets-eq, set_comm, length-sets, take_at, length-take-le}
+use borrow.Rule.Slice.PartMut.{put_mid}
+use Rattle.std.proofs.lemmas.Slice.{put_mid-paste}
+use Rattle.std.proofs.lemmas.List.Edits.{paste_all}
+use Rattle.sets.proofs.PutLaws.{Put, put_more}
 use Rattle.text.specs.Puts.{Puts, StartsWith}
 
 pub puts_none : (s : List ℕ) (i : ℕ) → Puts s i [] s i
@@ -20,20 +23,24 @@ puts_more {s} {t} {v} {w} {i} p q =
     let all = put_more w before (rw p.place at q.stored) in
     record { stored = all.stored; place = q.place ∙ rw (p.place, all.long, add_assoc) }
 
+-- a part of the buffer that is written as a whole
+pub puts_part :
+    (s : List ℕ) (i k : ℕ) {v w : List ℕ} → w ≡ v → k ≡ length v → i + length v ≤ length s →
+    Puts s i v (put_mid i k s w) (i + length v)
+puts_part s i k {v} {w} e long h =
+    record {
+      stored =
+          put_mid-paste i k s w v (length v) e (sym long) refl
+          ∙ (paste_all s i v (length v) refl ∙ sym (rw append_assoc at (sets-eq v s i h)));
+      place = refl;
+    }
+
 -- one element
 pub puts_one : (s : List ℕ) (i b : ℕ) → Puts s i (b ∷ []) (set s i b) (i + 1)
 puts_one s i b = record { stored = refl; place = refl }
 
 pub puts_long : {s t v : List ℕ} {i j : ℕ} → Puts s i v t j → length t ≡ length s
 puts_long {s} {v} {i} p = ap length p.stored ∙ length-sets s i v
-
--- the elements of a list, m places each
-pub puts_all :
-    {A : Type 0} {fields : List A → List ℕ} {m : ℕ} {l : List A} {s t : List ℕ} {i k : ℕ} →
-    Filled fields m l (length l) s i k t → length l ≤ k → Puts s i (fields l) t (i + m * length l)
-puts_all p h =
-    let all = rw take-length at (filled_all p h) in
-    record { stored = all.stored; place = rw all.long }
 
 -- a buffer begins with the text that was put at its start
 pub begins : {s t v : List ℕ} {j : ℕ} → Puts s 0 v t j → j ≤ length s → (j ≡ length v) × StartsWith t j v

@@ -5,7 +5,8 @@ ghost use Rattle.io.specs.Digits.{last_digits, IsDigitCount};
 ghost use Rattle.text.specs.Text.{decimal};
 ghost use Rattle.text.specs.Puts.{Puts};
 
-// How many digits n has. One is the commonest, and is asked first.
+// How many digits n has. One is the commonest, and is asked first. `io::decimal` counts them by divisions: tried, and it takes some
+// 50 instructions more a number.
 fn places(n: u64) -> usize
     ensures digit_count { IsDigitCount 10 1 n result }
     ensures upper_bound { result ≤ 20 }
@@ -44,9 +45,7 @@ fn put_digits(out: &mut [u8], at: usize, k: usize, n: u64)
     ensures { out.new ≡ sets out.old at (last_digits 10 k n) }
 {
     let mut rest = n;
-    let mut i = k;
-    while i > 1 {
-        i -= 1;
+    for i in (1..k).rev() {
         out[at + i] = b'0' + (rest % 10) as u8;
         rest /= 10;
     }

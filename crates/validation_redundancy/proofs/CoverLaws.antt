@@ -2,16 +2,18 @@
 use Prim.Native.Nat.{ℕ, zero, suc, ◌+◌, ◌%◌, ◌^◌, ◌<◌, ◌≤◌}
 use mathlib.Core.Path.{◌≡◌, refl, sym, ap, ◌∙◌}
 use mathlib.Core.Bool.{Bool, true, false, ◌&&◌, not}
-use mathlib.Core.List.{List}
+use mathlib.Core.List.{List, [], ◌∷◌}
 use native.Mathlib.Numerals.{add-one}
 use native.Mathlib.Omega.{arith}
 use borrow.Author.Tests.{eqb-true, eq-eqb, ne_eqb, not-true, eqb-false}
-use lib.ListN.{get_or}
+use lib.ListN.{length, take, get_or}
+use lib.Seq.{take-suc, take_all}
 use lib.Dec.{eqb}
 use lib.Bits.{bit_and}
-use Rattle.sets.specs.Quantifiers.{all_below, all_of}
+use Rattle.sets.specs.Quantifiers.{all_below, all_of, all_in}
 use Rattle.sets.specs.Bits.{bit}
-use Rattle.sets.proofs.Quantifiers.{and_both, both_ways, never_true, implies_of, every_below, every_of, some_of_lem}
+use Rattle.sets.proofs.Quantifiers.{and_both, and_left, and_right, both_ways, never_true, implies_of, every_of, some_of_lem}
+use Rattle.sets.proofs.Lists.{all_places, all_snoc}
 use Rattle.sets.proofs.BitLaws.{bit_of_and, bit_zero, shares_and}
 use Rattle.validation_redundancy.specs.Masks.{minutes_covered, level_covered}
 
@@ -24,14 +26,21 @@ below_power : (n : ℕ) → n < 2 ^ n
 below_power zero = omega arith
 below_power (suc n) = omega (arith, below_power n)
 
-pub minutes_monotone : (masks : List ℕ) (n : ℕ) → Monotone (minutes_covered masks n)
+-- what holds of all of a list holds at each place
+all_at : (p : ℕ → Bool) (l : List ℕ) (k : ℕ) → k < length l → all_in p l ≡ true → p (get_or l k 0) ≡ true
+unfolding all_in
+all_at p [] k h e = elim h [ ]
+all_at p (m ∷ l) zero h e = and_left (p m) (all_in p l) e
+all_at p (m ∷ l) (suc k) h e = all_at p l k (omega arith) (and_right (p m) (all_in p l) e)
+
+pub minutes_monotone : (masks : List ℕ) → Monotone (minutes_covered masks)
 unfolding minutes_covered
-minutes_monotone masks n a b more e =
-    (every_below n).make _
+minutes_monotone masks a b more e =
+    all_places (λ m. not (eqb (bit_and b m) 0)) 0 masks
     (λ k h.
     let m = get_or masks k 0 in
     let (i, j, l) = (some_of_lem a (λ i. bit i a)).read (λ i. bit i m)
-    (sym (shares_and a a m (below_power a)) ∙ (every_below n).read _ e k h) in
+    (sym (shares_and a a m (below_power a)) ∙ all_at (λ m. not (eqb (bit_and a m) 0)) masks k h e) in
     let set : bit i (bit_and b m) ≡ true = bit_of_and i b m ∙ rw (more i j.1, l) in
     ap not (ne_eqb (bit_and b m) 0 (λ z. both_ways set (ap (bit i) z ∙ bit_zero i))))
 
@@ -146,38 +155,37 @@ module _ (n set : ℕ) (masks : List ℕ) (inner : ℕ → Bool) (e : ℕ) where
   level_not p h t g = passed_not p h t refl g
 
 -- the innermost level
-pub record MinutesPassed (masks : List ℕ) (n e : ℕ) (covered : Bool) (k : ℕ) : Type 0 where
+pub record MinutesPassed (masks : List ℕ) (e : ℕ) (covered : Bool) (k : ℕ) : Type 0 where
   pub still : covered ≡ true
-  pub few : n ≤ 33
-  pub in_range : k ≤ n
-  pub so_far : minutes_covered masks k e ≡ true
+  pub so_far : minutes_covered (take k masks) e ≡ true
 
-module _ {masks : List ℕ} {n e : ℕ} {covered : Bool} where
-  pub minutes_none : covered ≡ true → n ≤ 33 → MinutesPassed masks n e covered 0
-  unfolding minutes_covered all_below
-  minutes_none still few = record { still = still; few = few; in_range = omega arith; so_far = refl }
+module _ {masks : List ℕ} {e : ℕ} {covered : Bool} where
+  pub minutes_none : covered ≡ true → MinutesPassed masks e covered 0
+  unfolding minutes_covered all_in
+  minutes_none still = record { still = still; so_far = refl }
 
   pub minutes_more :
-      {k : ℕ} → MinutesPassed masks n e covered k → k < n → (bit_and e (get_or masks k 0) ≡ 0 → ⊥) →
-      MinutesPassed masks n e covered (k + 1)
-  unfolding minutes_covered all_below
+      {k : ℕ} → MinutesPassed masks e covered k → k < length masks → (bit_and e (get_or masks k 0) ≡ 0 → ⊥) →
+      MinutesPassed masks e covered (k + 1)
+  unfolding minutes_covered
   minutes_more {k} p h some_in =
       record {
         still = p.still;
-        few = p.few;
-        in_range = omega arith;
-        so_far = rw (add-one, p.so_far, ne_eqb (bit_and e (get_or masks k 0)) 0 some_in);
+        so_far =
+            rw (add-one, take-suc masks k 0 h)
+            (all_snoc (λ m. not (eqb (bit_and e m) 0)) (take k masks) (get_or masks k 0) p.so_far
+            (ap not (ne_eqb (bit_and e (get_or masks k 0)) 0 some_in)));
       }
 
-  pub minutes_all : {k : ℕ} → MinutesPassed masks n e covered k → n ≤ k → minutes_covered masks n e ≡ true
-  minutes_all {k} p l = let q : k ≡ n = omega (arith, p.in_range) in rw q at p.so_far
+  pub minutes_all : {k : ℕ} → MinutesPassed masks e covered k → length masks ≤ k → minutes_covered masks e ≡ true
+  minutes_all {k} p l = rw (take_all k masks l) at p.so_far
 
 pub minutes_not :
-    (masks : List ℕ) (n e : ℕ) {k : ℕ} → k < n → bit_and e (get_or masks k 0) ≡ 0 → minutes_covered masks n e ≡ false
+    (masks : List ℕ) (e : ℕ) {k : ℕ} → k < length masks → bit_and e (get_or masks k 0) ≡ 0 → minutes_covered masks e ≡ false
 unfolding minutes_covered
-minutes_not masks n e {k} h none =
-    never_true (minutes_covered masks n e)
-    (λ t. both_ways ((every_below n).read _ t k h) (ap not (eq-eqb (bit_and e (get_or masks k 0)) 0 none)))
+minutes_not masks e {k} h none =
+    never_true (minutes_covered masks e)
+    (λ t. both_ways (all_at (λ m. not (eqb (bit_and e m) 0)) masks k h t) (ap not (eq-eqb (bit_and e (get_or masks k 0)) 0 none)))
 
 -- the code's test of a bit
 pub no_bit : (a : ℕ) → a % 2 ≡ 0 → eqb (a % 2) 1 ≡ false

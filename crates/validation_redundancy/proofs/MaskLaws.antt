@@ -1,116 +1,101 @@
--- Laws of the tables of the search: rows that are filled from the front, and masks of minutes.
-use Prim.Native.Nat.{ℕ, zero, suc, ◌+◌, ◌-◌, ◌<◌, ◌≤◌}
-use mathlib.Core.Path.{◌≡◌, refl, sym, ap, ◌∙◌}
-use mathlib.Core.Bool.{Bool, true, false, and-true}
-use mathlib.Core.List.{List, ◌∷◌}
-use native.Mathlib.Numerals.{add-one, sub-one}
-use native.Mathlib.Decide.{ℕ_discrete, dec_lt}
+-- Laws of masks: which directives a mask has, and that two share a bit where one directive passes both tests.
+use Prim.Native.Nat.{ℕ, zero, suc, ◌+◌, ◌^◌, ◌<◌, ◌≤◌}
+use mathlib.Core.Path.{◌≡◌, refl, ap, ap₂, ◌∙◌}
+use mathlib.Core.Bool.{Bool, true, false, ◌&&◌, not}
+use mathlib.Core.List.{List, [], ◌∷◌, ◌++◌, map, map-append}
+use native.Mathlib.Nat.{lt_of_le_of_lt}
+use native.Mathlib.Numerals.{add-one}
 use native.Mathlib.Omega.{arith}
 use borrow.Author.Tests.{lt-ltb, le-ltb}
-use lib.ListN.{length, get_or, set, replicate, length-set, length-replicate, get_or-replicate}
-use lib.Seq.{get_or-set_same, get_or-set_other, set-get_or}
-use lib.Dec.{ltb}
-use Rattle.sets.specs.Quantifiers.{pick, all_below, all_of}
-use Rattle.sets.proofs.Ranges.{all_same}
-use Rattle.register.specs.Roles.{covers}
-use Rattle.directive.specs.declared.Subject.{Subject}
-use Rattle.directive.specs.declared.Subject.TheVariants.{Person, Role}
-use Rattle.directive.specs.Matching.{in_minutes}
-use Rattle.validation_meaning.specs.Search.{stands_for}
-use Rattle.validation_redundancy.specs.Masks.{minute_column, RowHolds, MasksAt, MinutesOf}
+use lib.ListN.{length, length-map, take, get_or, get_or-map}
+use lib.Seq.{take-suc, take-length}
+use lib.Dec.{eqb, ltb}
+use lib.Bits.{bit_and, and_le_l}
+use Rattle.sets.specs.Quantifiers.{some_below, some_of, some_in, keep}
+use Rattle.sets.specs.Bits.{bit}
+use Rattle.sets.proofs.Keep.{keep_next}
+use Rattle.sets.proofs.Lists.{some_snoc}
+use Rattle.sets.proofs.Ranges.{some_narrow}
+use Rattle.sets.proofs.BitLaws.{bit_of_and, set_bit, shares_and}
+use Rattle.sets.proofs.SetLaws.{set_small}
+use Rattle.active.specs.declared.Active.{Active}
+use Rattle.active.specs.Active.{no_active}
+use Rattle.validation_redundancy.specs.Masks.{mask_where, boundaries_of}
 
--- in role r a role stands for what it covers, whoever the draft's subject is
-pub stands_role : (roles : List ℕ) (s : Subject) (n r : ℕ) → stands_for roles s (Role n) r ≡ covers roles n r
-stands_role roles (Person k) n r = refl
-stands_role roles (Role k) n r = refl
+-- a test of some of the first n elements, by their places
+module _ {A : Type 0} (p : A → Bool) (z : A) (l : List A) where
+  some_first : (n : ℕ) → n ≤ length l → some_below n (λ i. p (get_or l i z)) ≡ some_in p (take n l)
+  unfolding some_below some_in
+  some_first zero h = refl
+  some_first (suc n) h =
+      rw (take-suc l n z (omega arith), some_snoc p (take n l) (get_or l n z), some_first n (omega arith))
 
-module _ (size : ℕ) (f : ℕ → ℕ) where
-  pub row_none : RowHolds size f 0 (replicate size 0)
-  row_none =
+within_both : (x y z : Bool) → x && y && (x && z) ≡ x && (y && z)
+within_both true y z = refl
+within_both false y z = refl
+
+-- the mask has those of the entries that pass t
+record Has (l : List Active) (mask : ℕ) (t : Active → Bool) : Type 0 where
+  small : mask < 2 ^ 32
+  at : (i : ℕ) → i < 32 → bit i mask ≡ ltb i (length l) && t (get_or l i no_active)
+
+module _ (l : List Active) (few : length l ≤ 32) where
+  has_where : (t : Active → Bool) → Has l (mask_where t l) t
+  has_where t = record { small = set_small _ (length l) 32 few; at = λ i h. set_bit (length l) i _ }
+
+  has_and : (a b : ℕ) (s t : Active → Bool) → Has l a s → Has l b t → Has l (bit_and a b) (λ e. s e && t e)
+  has_and a b s t f g =
       record {
-        long = length-replicate size 0;
-        at = λ i h. get_or-replicate size i 0 0 h ∙ rw (le-ltb i 0 (omega arith));
+        small = lt_of_le_of_lt (and_le_l a b) f.small;
+        at = λ i h. bit_of_and i a b ∙ ap₂ ◌&&◌ (f.at i h) (g.at i h) ∙ within_both (ltb i (length l)) _ _;
       }
 
-  pub row_next :
-      (row : List ℕ) (k v : ℕ) → k < size → v ≡ f k → RowHolds size f k row → RowHolds size f (k + 1) (set row k v)
-  row_next row k v h same holds =
-      record {
-        long = length-set row k v ∙ holds.long;
-        at = λ i l.
-            elim (ℕ_discrete i k) [
-              | yes q ↦ rw (q, get_or-set_same row k v 0 (omega arith), lt-ltb k (k + 1) (omega arith)) same
-              | no d ↦ get_or-set_other row k i v 0 d ∙ holds.at i l ∙ ap (λ (b : Bool). pick b (f i) 0) (apart i d)
-            ];
-      }
-    where
-      apart : (i : ℕ) → (i ≡ k → ⊥) → ltb i k ≡ ltb i (k + 1)
-      apart i d =
-          elim (dec_lt i k) [
-            | yes b ↦ rw (lt-ltb i k b, lt-ltb i (k + 1) (omega arith))
-            | no b ↦ rw (le-ltb i k (omega arith), le-ltb i (k + 1) (omega arith))
-          ]
+  -- two masks share a bit where one of the entries passes both tests
+  has_some :
+      (a b : ℕ) (s t : Active → Bool) → Has l a s → Has l b t → not (eqb (bit_and a b) 0) ≡ some_in (λ e. s e && t e) l
+  unfolding some_of
+  has_some a b s t f g =
+      shares_and 32 a b f.small
+      ∙ some_narrow (length l) 32 _ _ (λ i. s (get_or l i no_active)) (λ i. t (get_or l i no_active)) few
+      (λ i h. f.at i (omega arith) ∙ rw (lt-ltb i (length l) h))
+      (λ i h. g.at i (omega arith) ∙ rw (lt-ltb i (length l) h))
+      (λ i h b. f.at i b ∙ rw (le-ltb i (length l) h))
+      ∙ some_first (λ e. s e && t e) no_active l (length l) (omega arith)
+      ∙ ap (some_in (λ e. s e && t e)) (take-length l)
 
-  -- a place that stays 0
-  pub row_skip : (row : List ℕ) (k : ℕ) → k < size → 0 ≡ f k → RowHolds size f k row → RowHolds size f (k + 1) row
-  row_skip row k h none holds =
-      rw (set-get_or row k 0) at
-      (row_next row k (get_or row k 0) h (holds.at k h ∙ rw (le-ltb k k (omega arith)) none) holds)
+  -- and five masks share one where one of the entries passes the five tests
+  pub five_share :
+      (p q r s t : Active → Bool) →
+      not
+      (eqb
+      (bit_and (bit_and (bit_and (bit_and (mask_where p l) (mask_where q l)) (mask_where r l)) (mask_where s l)) (mask_where t l))
+      0)
+      ≡ some_in (λ e. p e && q e && r e && s e && t e) l
+  five_share p q r s t =
+      let two = has_and (mask_where p l) (mask_where q l) p q (has_where p) (has_where q) in
+      let three = has_and _ (mask_where r l) _ r two (has_where r) in
+      let four = has_and _ (mask_where s l) _ s three (has_where s) in
+      has_some _ (mask_where t l) _ t four (has_where t)
 
--- The walk over the boundary minutes: what is known before turn i.
-pub record MinutesMasked (first end : ℕ) (from until : List ℕ) (n : ℕ) (masks : List ℕ) (count i : ℕ) : Type 0 where
-  pub turns : i ≤ n + 1
-  pub long : length masks ≡ 33
-  pub few : count ≤ i
-  pub so_far :
-      MasksAt (in_minutes first end) (minute_column from until n) (λ i. get_or (first ∷ until) i 0) i masks count
+-- The walk over the minutes: before turn i there are the images of those of the first i that pass s.
+module _ (f : ℕ → ℕ) (s : ℕ → Bool) (ms : List ℕ) where
+  pub walked_none : [] ≡ map f (keep s (take 0 ms))
+  unfolding keep
+  walked_none = refl
 
-module _ {first end : ℕ} {from until : List ℕ} {n : ℕ} where
-  pub masked_none : MinutesMasked first end from until n (replicate 33 0) 0 0
-  unfolding all_of all_below
-  masked_none =
-      record { turns = omega arith; long = length-replicate {A = ℕ} 33 0; few = omega arith; so_far = λ p. refl }
+  module _ {xs : List ℕ} {i m : ℕ} (walked : xs ≡ map f (keep s (take i ms))) (h : i < length ms) (here : m ≡ get_or ms i 0) where
+    pub walked_next :
+        {ys : List ℕ} {v : ℕ} → s m ≡ true → v ≡ f m → ys ≡ xs ++ (v ∷ []) → ys ≡ map f (keep s (take (i + 1) ms))
+    walked_next passes is next =
+        next ∙ rw (keep_next s ms i 0 h, ← here, passes, map-append f (keep s (take i ms)) (m ∷ []), is, walked)
 
-  module _ {masks : List ℕ} {count i m : ℕ} (walked : MinutesMasked first end from until n masks count i)
-      (h : i < n + 1) (is_minute : m ≡ get_or (first ∷ until) i 0) where
-    -- a minute that the draft spans
-    pub masked_next :
-        {v : ℕ} → n ≤ 32 → in_minutes first end m ≡ true → v ≡ minute_column from until n m →
-        MinutesMasked first end from until n (set masks count v) (count + 1) (i + 1)
-    unfolding all_of all_below
-    masked_next {v} l spanned is_mask =
-        record {
-          turns = omega arith;
-          long = length-set masks count v ∙ walked.long;
-          few = omega (arith, walked.few);
-          so_far = λ p.
-              rw (add-one count, add-one i, kept p, get_or-set_same masks count v 0 (omega (arith, walked)), walked.so_far p, is_mask, ← is_minute, spanned);
-        }
-      where
-        kept :
-            (p : ℕ → Bool) →
-            all_below count (λ k. p (get_or (set masks count v) k 0)) ≡ all_below count (λ k. p (get_or masks k 0))
-        kept p = all_same _ _ count (λ k l. ap p (get_or-set_other masks count k v 0 (λ e. omega arith)))
+    pub walked_skip : s m ≡ false → xs ≡ map f (keep s (take (i + 1) ms))
+    walked_skip fails = rw (keep_next s ms i 0 h, ← here, fails) walked
 
-    -- one that it does not span
-    pub masked_skip : in_minutes first end m ≡ false → MinutesMasked first end from until n masks count (i + 1)
-    unfolding all_of all_below
-    masked_skip not_spanned =
-        record {
-          turns = omega arith;
-          long = walked.long;
-          few = omega (arith, walked.few);
-          so_far = λ p. rw (add-one i, ← is_minute, not_spanned) (walked.so_far p ∙ sym (and-true _));
-        }
+-- the minutes looked at, one by one
+module _ (first : ℕ) (l : List Active) where
+  pub boundaries_long : length (boundaries_of first l) ≡ length l + 1
+  boundaries_long = rw (length-map l, add-one)
 
-  pub masked_all :
-      {masks : List ℕ} {count i : ℕ} → MinutesMasked first end from until n masks count i → n ≤ 32 → n + 1 ≤ i →
-      MinutesOf first end from until n (record { masks = masks; count = count })
-  masked_all {i} walked l h =
-      let e : i ≡ n + 1 = omega (arith, walked.turns) in
-      record { few = omega (arith, walked.few); masks = rw e at walked.so_far }
-
--- what stands in a place of a list stands one place on after one element more
-pub get_d_after : {A : Type 0} (x d : A) (l : List A) (i : ℕ) → (i ≡ 0 → ⊥) → get_or l (i - 1) d ≡ get_or (x ∷ l) i d
-get_d_after x d l zero some_place = absurd (some_place refl)
-get_d_after x d l (suc i) some_place = rw sub-one
+  pub boundary_at : (i : ℕ) → get_or (boundaries_of first l) (i + 1) 0 ≡ (get_or l i no_active).directive.until
+  boundary_at i = rw add-one (get_or-map (λ (a : Active). a.directive.until) l i no_active)

@@ -1,37 +1,37 @@
--- The search over the tables of masks finds what the search of specs/Search.antt finds.
-use Prim.Native.Nat.{ℕ, zero, suc, ◌+◌, ◌^◌, ◌<◌, ◌≤◌}
-use mathlib.Core.Path.{◌≡◌, refl, sym, ap, ap₂, ◌∙◌}
-use mathlib.Core.Bool.{Bool, true, false, ◌&&◌, not, and-true, and-false, and_assoc, and_comm}
-use mathlib.Core.List.{List, [], ◌∷◌, map}
-use native.Mathlib.Nat.{lt_of_le_of_lt}
-use native.Mathlib.Numerals.{add-one}
+-- The search over the tables of masks finds what the search of validation_meaning's specs/Search.antt finds.
+use Prim.Native.Nat.{ℕ, ◌<◌, ◌≤◌}
+use mathlib.Core.Path.{◌≡◌, refl, sym, ap, ◌∙◌}
+use mathlib.Core.Bool.{Bool, true, false, ◌&&◌, not, beq, and-true, and-false, and_assoc, and_comm}
+use mathlib.Core.Logic.{⊎_elim}
+use mathlib.Core.List.{List, [], ◌∷◌, map, map-map}
 use native.Mathlib.Decide.{dec_lt}
 use native.Mathlib.Omega.{arith}
 use borrow.Author.Tests.{lt-ltb, le-ltb, ltb-true}
-use lib.ListN.{length, take, get_or, length-map, get_or-map}
-use lib.Seq.{take-suc, take_all, take-length}
+use lib.ListN.{length, get_or, length-take}
 use lib.Dec.{eqb, ltb}
-use lib.Bits.{bit_and, and_le_l}
-use Rattle.sets.specs.Quantifiers.{pick, implies, all_below, some_below, all_of, some_of, all_in, some_in}
-use Rattle.sets.specs.Bits.{bit}
-use Rattle.sets.specs.RecordSets.{contains, record_set_of}
-use Rattle.sets.specs.declared.record_set.RecordSet.{RecordSet}
-use Rattle.sets.proofs.Quantifiers.{same_test, and_both, and_where, every_of}
-use Rattle.sets.proofs.Lists.{all_append, some_snoc, some_alike}
-use Rattle.sets.proofs.Ranges.{all_same, some_narrow}
-use Rattle.sets.proofs.BitLaws.{bit_of_and, bit_zero, set_bit, set_bound, shares_and}
-use Rattle.sets.proofs.SetLaws.{set_small}
-use Rattle.sets.proofs.WordLaws.{contains_low, contains_high, contains_words}
-use Rattle.register.specs.Register.{Contents}
+use lib.Bits.{bit_and}
+use Rattle.sets.specs.Quantifiers.{implies, all_of, all_in, some_in, keep}
+use Rattle.sets.specs.Bits.{bit, set_of}
+use Rattle.sets.specs.RecordSets.{contains}
+use Rattle.sets.proofs.Quantifiers.{same_test, either_way, and_both, every_of}
+use Rattle.sets.proofs.Lists.{some_map, some_alike}
+use Rattle.sets.proofs.BitLaws.{set_bit}
+use Rattle.register.specs.declared.Record.{Record}
+use Rattle.register.specs.Register.{holding}
 use Rattle.directive.specs.declared.Directive.{Directive}
-use Rattle.directive.specs.Nothing.{no_directive}
 use Rattle.directive.specs.Selection.{selects}
 use Rattle.directive.specs.Matching.{in_minutes, applies_to}
-use Rattle.directive.proofs.SelectLaws.{selects_past}
-use Rattle.validation_redundancy.specs.declared.tables.Rows.{Rows}
-use Rattle.validation_redundancy.specs.declared.tables.Minutes.{Minutes}
-use Rattle.validation_meaning.specs.Search.{from_origin, for_purpose, start, stands_for, covered_at, boundaries, included_found}
-use Rattle.validation_redundancy.specs.Masks.{role_row, record_row, column, record_column, minute_column, minutes_covered, level_covered, all_covered, Row, RowsOf, MinutesOf}
+use Rattle.directive.proofs.SelectLaws.{selects_past, contains_selected}
+use Rattle.active.specs.declared.Active.{Active}
+use Rattle.active.specs.declared.ActiveList.{ActiveList}
+use Rattle.active.specs.Active.{active_in, entries_of, directives_of}
+use Rattle.active.proofs.ListLaws.{selects_own}
+use Rattle.validation_redundancy.specs.declared.tables.Tables.{Tables}
+use Rattle.validation_meaning.specs.Meaning.{same_effect}
+use Rattle.validation_meaning.specs.Search.{from_origin, for_purpose, start, stands_for, covered_at, included_found, redundant_found}
+use Rattle.validation_conflict.specs.Given.{Given}
+use Rattle.validation_redundancy.specs.Masks.{mask_where, record_mask, minute_mask, boundaries_of, masks_of, minutes_covered, level_covered, all_covered}
+use Rattle.validation_redundancy.proofs.MaskLaws.{five_share}
 
 -- the values below n that pass f, where those are the values below m that pass g
 of_same :
@@ -50,212 +50,109 @@ of_same n m f g p q h same alike =
     let (less, passes) = and_both (ltb k m) (g k) (sym (same k i.0) ∙ i.1) in
     alike k (ltb-true k m less) passes ∙ (every_of m g).read q t k (ltb-true k m less, passes)))
 
--- a test of each of the first n elements, and of some, by their places
-module _ {A : Type 0} (p : A → Bool) (z : A) (l : List A) where
-  all_first : (n : ℕ) → n ≤ length l → all_below n (λ i. p (get_or l i z)) ≡ all_in p (take n l)
-  unfolding all_below all_in
-  all_first zero h = refl
-  all_first (suc n) h =
-      rw (take-suc l n z (omega arith), all_append p (take n l) (get_or l n z ∷ []), all_first n (omega arith), and-true (p (get_or l n z)))
-
-  some_first : (n : ℕ) → n ≤ length l → some_below n (λ i. p (get_or l i z)) ≡ some_in p (take n l)
-  unfolding some_below some_in
-  some_first zero h = refl
-  some_first (suc n) h =
-      rw (take-suc l n z (omega arith), some_snoc p (take n l) (get_or l n z), some_first n (omega arith))
-
--- the mask has those of the directives that pass t
-record Has (es : List Directive) (mask : ℕ) (t : Directive → Bool) : Type 0 where
-  small : mask < 2 ^ 32
-  at : (i : ℕ) → i < 32 → bit i mask ≡ ltb i (length es) && t (get_or es i no_directive)
-
-within_both : (x y z : Bool) → x && y && (x && z) ≡ x && (y && z)
-within_both true y z = refl
-within_both false y z = refl
-
-bit_pick : (b : Bool) (k a : ℕ) → bit k (pick b a 0) ≡ b && bit k a
-bit_pick true k a = refl
-bit_pick false k a = bit_zero k
-
-module _ (es : List Directive) (few : length es ≤ 32) where
-  has_alike :
-      (mask : ℕ) (s t : Directive → Bool) → ((e : Directive) → s e ≡ t e) → Has es mask s → Has es mask t
-  has_alike mask s t f h =
-      record { small = h.small; at = λ i l. h.at i l ∙ rw (f (get_or es i no_directive)) }
-
-  has_and :
-      (a b : ℕ) (s t : Directive → Bool) → Has es a s → Has es b t → Has es (bit_and a b) (λ e. s e && t e)
-  has_and a b s t f g =
-      record {
-        small = lt_of_le_of_lt (and_le_l a b) f.small;
-        at = λ i l. bit_of_and i a b ∙ ap₂ ◌&&◌ (f.at i l) (g.at i l) ∙ within_both (ltb i (length es)) _ _;
-      }
-
-  has_column :
-      (f : Directive → ℕ) (row : List ℕ) (k : ℕ) → Row es (length es) f row → Has es (column row k) (λ e. bit k (f e))
-  has_column f row k r =
-      record {
-        small = set_bound 32 _;
-        at = λ i l.
-            set_bit 32 i (λ i. bit k (get_or row i 0))
-            ∙ rw (lt-ltb i 32 l, r.at i l) (bit_pick (ltb i (length es)) k (f (get_or es i no_directive)));
-      }
-
-  has_minute :
-      (from until : List ℕ) (m : ℕ) → Row es (length es) (λ e. e.from) from → Row es (length es) (λ e. e.until) until →
-      Has es (minute_column from until (length es) m) (λ e. in_minutes e.from e.until m)
-  has_minute from until m f u =
-      record {
-        small = set_small _ (length es) 32 few;
-        at = λ i l.
-            set_bit (length es) i _
-            ∙ and_where (ltb i (length es)) _ _ (λ t. rw (f.at i l, u.at i l, t));
-      }
-
-  -- two masks share a bit where one of the directives passes both tests
-  has_some :
-      (a b : ℕ) (s t : Directive → Bool) → Has es a s → Has es b t →
-      not (eqb (bit_and a b) 0) ≡ some_in (λ e. s e && t e) es
-  unfolding some_of
-  has_some a b s t f g =
-      shares_and 32 a b f.small
-      ∙ some_narrow (length es) 32 _ _ (λ i. s (get_or es i no_directive)) (λ i. t (get_or es i no_directive)) few
-      (λ i l. f.at i (omega arith) ∙ rw (lt-ltb i (length es) l))
-      (λ i l. g.at i (omega arith) ∙ rw (lt-ltb i (length es) l))
-      (λ i l h. f.at i h ∙ rw (le-ltb i (length es) l))
-      ∙ some_first (λ e. s e && t e) no_directive es (length es) (omega arith)
-      ∙ ap (some_in (λ e. s e && t e)) (take-length es)
-
--- the boundary minutes by their places
-boundary_at :
-    (es : List Directive) (until : List ℕ) (first : ℕ) → length es ≤ 32 → Row es (length es) (λ e. e.until) until →
-    (i : ℕ) → i < suc (length es) → get_or (first ∷ until) i 0 ≡ get_or (first ∷ map (λ e. e.until) es) i 0
-boundary_at es until first few u zero h = refl
-boundary_at es until first few u (suc i) h =
-    u.at i (omega arith)
-    ∙ rw (lt-ltb i (length es) (omega arith))
-    (sym (get_or-map (λ (e : Directive). e.until) es i no_directive))
-
 -- the tests of one directive, in the order of the levels and of the definition
 in_order : (e x o u s m : Bool) → e && x && o && u && s && m ≡ e && s && (o && u && x && m)
 in_order false x o u s m = refl
 in_order true x o u false m = rw (and-false (x && o && u))
 in_order true x o u true m = ap (λ (b : Bool). b && m) (and-true (x && o && u) ∙ and_assoc x o u ∙ and_comm x (o && u))
 
--- the table has the columns of the rows at the values of the set
-abbrev Columns : List ℕ → ℕ → List ℕ → Type 0
-Columns row set table = (k : ℕ) → k < 16 → get_or table k 0 ≡ pick (bit k set) (column row k) 0
+-- a test of the minutes that a draft spans, by their masks
+spanned :
+    (s p q : ℕ → Bool) (f : ℕ → ℕ) → ((m : ℕ) → p (f m) ≡ q m) → (ms : List ℕ) →
+    all_in p (map f (keep s ms)) ≡ all_in (λ m. implies (s m) (q m)) ms
+unfolding all_in keep
+spanned s p q f same [] = refl
+spanned s p q f same (m ∷ ms) =
+    ⊎_elim
+    (λ (e : s m ≡ true). rw (e, same m, spanned s p q f same ms))
+    (λ (e : s m ≡ false). rw (e, spanned s p q f same ms))
+    (either_way (s m))
 
--- the mask at the innermost level
-abbrev narrowed : Rows → List ℕ → List ℕ → List ℕ → ℕ → ℕ → ℕ → ℕ → ℕ
-narrowed rows by_origin by_purpose by_role x o u r =
-    bit_and
-    (bit_and (bit_and (record_column rows.low rows.high x) (get_or by_origin o 0)) (get_or by_purpose u 0))
-    (get_or by_role r 0)
+-- the table has the masks of the numbers in the set
+abbrev TableOf : ℕ → (ℕ → Active → Bool) → List Active → List ℕ → Type 0
+TableOf set test l table = (k : ℕ) → k < 16 → bit k set ≡ true → get_or table k 0 ≡ mask_where (test k) l
 
-module _ (c : Contents) (clock : ℕ) (ok : Directive → Bool) (d : Directive) (es : List Directive) (few : length es ≤ 32)
-    (rows : Rows) (is_rows : RowsOf c ok d es (length es) rows) where
-  has_record_lem :
-      (x : ℕ) → x < 128 →
-      Has es (record_column rows.low rows.high x) (λ e. ok e && selects c.records e x)
-  has_record_lem x h =
-      elim (dec_lt x 64) [
-        | yes l ↦
-            rw (lt-ltb x 64 l)
-            (has_alike es few _ _ _ (λ e. sym (contains_low (record_row c.records ok e) x l) ∙ here e)
-            (has_column es few _ rows.low x is_rows.low))
-        | no g ↦
-            rw (le-ltb x 64 (omega arith))
-            (has_alike es few _ _ _ (λ e. sym (contains_high (record_row c.records ok e) x (omega arith) h) ∙ here e)
-            (has_column es few _ rows.high _ is_rows.high))
-      ]
-    where
-      here : (e : Directive) → contains (record_row c.records ok e) x ≡ ok e && selects c.records e x
-      here e = contains_words (λ x. ok e && selects c.records e x) x h
+-- what the tables of the draft d beside the entries l are, from the clock on
+pub record TablesOf (roles : List ℕ) (clock : ℕ) (d : Directive) (l : List Active) (t : Tables) : Type 0 where
+  pub by_origin : TableOf d.subject_origins (λ k a. bit k a.directive.subject_origins) l t.by_origin
+  pub by_purpose : TableOf d.purposes (λ k a. bit k a.directive.purposes) l t.by_purpose
+  pub roles_are : t.roles ≡ set_of 16 (λ r. ltb r (length roles) && stands_for roles d.subject d.subject r)
+  pub by_role : TableOf t.roles (λ r a. stands_for roles d.subject a.directive.subject r) l t.by_role
+  pub minutes :
+      masks_of t.minutes
+      ≡ map (minute_mask l) (keep (in_minutes (start clock d) d.until) (boundaries_of (start clock d) l))
 
-  has_role_lem :
-      (r : ℕ) → r < length c.roles → r < 16 →
-      Has es (column rows.roles r) (λ e. stands_for c.roles d.subject e.subject r)
-  has_role_lem r h l =
-      has_alike es few _ _ _
-      (λ e. set_bit 16 r _ ∙ rw (lt-ltb r 16 l, lt-ltb r (length c.roles) h))
-      (has_column es few (role_row c.roles d) rows.roles r is_rows.roles)
+module _ (roles : List ℕ) (rs : List Record) (clock : ℕ) (a : Active) (list : ActiveList)
+    (given : Given rs a list) (few_roles : length roles ≤ 16) (t : Tables)
+    (is : TablesOf roles clock a.directive (entries_of list) t) where
+  pub few : length (entries_of list) ≤ 32
+  few = simp length-take (omega (arith, given.others.few))
 
-  selects_cut : (x : ℕ) → selects c.records d x ≡ ltb x (length c.records) && selects c.records d x
+  -- at one value of each dimension that the draft has, the masks share a bit where a directive meets the request
+  masks_meet :
+      (x o u r m : ℕ) → (o < 16) × (from_origin a.directive o ≡ true) → (u < 16) × (for_purpose a.directive u ≡ true) →
+      (r < 16) × (bit r t.roles ≡ true) →
+      not
+      (eqb
+      (bit_and
+      (bit_and
+      (bit_and (bit_and (record_mask (entries_of list) a.directive.permit x) (get_or t.by_origin o 0)) (get_or t.by_purpose u 0))
+      (get_or t.by_role r 0))
+      (minute_mask (entries_of list) m)) 0)
+      ≡ covered_at (holding roles rs) (same_effect a.directive) a.directive (directives_of list) x o u r m
+  unfolding applies_to
+  masks_meet x o u r m ho hu hr =
+      let by_record : Active → Bool = λ b. beq a.directive.permit b.directive.permit && contains b.selected x in
+      let by_origin : Active → Bool = λ b. bit o b.directive.subject_origins in
+      let by_purpose : Active → Bool = λ b. bit u b.directive.purposes in
+      let by_role : Active → Bool = λ b. stands_for roles a.directive.subject b.directive.subject r in
+      let by_minute : Active → Bool = λ b. in_minutes b.directive.from b.directive.until m in
+      let p : Active → Bool = λ b. by_record b && by_origin b && by_purpose b && by_role b && by_minute b in
+      let q : Directive → Bool =
+      λ e. same_effect a.directive e && stands_for roles a.directive.subject e.subject r && applies_to (holding roles rs) e x o u m in
+      rw (is.by_origin o ho.0 ho.1, is.by_purpose u hu.0 hu.1, is.by_role r hr.0 hr.1)
+      (five_share (entries_of list) few by_record by_origin by_purpose by_role by_minute
+      ∙ ap (some_in p) given.others.selections
+      ∙ some_map (active_in rs) p (directives_of list)
+      ∙ some_alike (λ e. p (active_in rs e)) q (directives_of list)
+      (λ e _.
+      rw (contains_selected rs e x given.few)
+      (in_order (same_effect a.directive e) (selects rs e x) (from_origin e o) (for_purpose e u)
+      (stands_for roles a.directive.subject e.subject r) (in_minutes e.from e.until m))))
+
+  selects_cut : (x : ℕ) → selects rs a.directive x ≡ ltb x (length rs) && selects rs a.directive x
   selects_cut x =
-      elim (dec_lt x (length c.records)) [
-        | yes l ↦ rw (lt-ltb x (length c.records) l)
-        | no g ↦ rw (le-ltb x (length c.records) (omega arith)) (selects_past c.records d x (omega arith))
+      elim (dec_lt x (length rs)) [
+        | yes h ↦ rw (lt-ltb x (length rs) h)
+        | no h ↦ rw (le-ltb x (length rs) (omega arith)) (selects_past rs a.directive x (omega arith))
       ]
 
-  -- a test of the boundary minutes that the draft spans, by their places
-  minutes_met :
-      (p q : ℕ → Bool) → ((m : ℕ) → p m ≡ q m) →
-      all_of (length es + 1) (λ i. in_minutes (start clock d) d.until (get_or (start clock d ∷ rows.until) i 0))
-      (λ i. p (get_or (start clock d ∷ rows.until) i 0))
-      ≡ all_in (λ m. implies (in_minutes (start clock d) d.until m) (q m)) (boundaries clock d es)
-  unfolding all_of
-  minutes_met p q same =
-      rw (add-one)
-      (all_same _ _ (suc (length es))
-      (λ i h. rw (boundary_at es rows.until (start clock d) few is_rows.until i h, same))
-      ∙ all_first (λ m. implies (in_minutes (start clock d) d.until m) (q m)) 0 (boundaries clock d es) (suc (length es))
-      (simp length-map (omega arith))
-      ∙ ap (all_in (λ m. implies (in_minutes (start clock d) d.until m) (q m)))
-      (take_all (suc (length es)) (boundaries clock d es) (simp length-map (omega arith))))
+  role_bit : (r : ℕ) → r < 16 → bit r t.roles ≡ ltb r (length roles) && stands_for roles a.directive.subject a.directive.subject r
+  role_bit r h = ap (bit r) is.roles_are ∙ set_bit 16 r _ ∙ rw (lt-ltb r 16 h)
 
-  module _ (few_records : length c.records ≤ 128) (few_roles : length c.roles ≤ 16)
-      (by_origin by_purpose by_role : List ℕ) (roles : ℕ) (is_roles : roles ≡ role_row c.roles d d)
-      (is_origin : Columns rows.origins d.subject_origins by_origin)
-      (is_purpose : Columns rows.purposes d.purposes by_purpose)
-      (is_role : Columns rows.roles roles by_role) where
-    role_bit :
-        (r : ℕ) → r < 16 →
-        bit r roles ≡ ltb r (length c.roles) && stands_for c.roles d.subject d.subject r
-    role_bit r h = ap (bit r) is_roles ∙ set_bit 16 r _ ∙ rw (lt-ltb r 16 h)
-
-    -- at one value of each dimension that the draft has, the masks share a bit where a directive meets the request
-    masks_meet :
-        (x o u r m : ℕ) → x < 128 → (o < 16) × (from_origin d o ≡ true) → (u < 16) × (for_purpose d u ≡ true) →
-        (r < length c.roles) × (stands_for c.roles d.subject d.subject r ≡ true) →
-        not (eqb (bit_and (narrowed rows by_origin by_purpose by_role x o u r) (minute_column rows.from rows.until (length es) m)) 0)
-        ≡ covered_at c ok d es x o u r m
-    unfolding applies_to
-    masks_meet x o u r m hx ho hu hr =
-        rw (is_origin o ho.0, ho.1, is_purpose u hu.0, hu.1, is_role r (omega arith), role_bit r (omega arith), lt-ltb r (length c.roles) hr.0, hr.1)
-        (has_some es few _ _ _ _
-        (has_and es few _ _ _ _
-        (has_and es few _ _ _ _
-        (has_and es few _ _ _ _ (has_record_lem x hx)
-        (has_column es few (λ e. e.subject_origins) rows.origins o is_rows.origins))
-        (has_column es few (λ e. e.purposes) rows.purposes u is_rows.purposes))
-        (has_role_lem r hr.0 (omega arith)))
-        (has_minute es few rows.from rows.until m is_rows.from is_rows.until)
-        ∙ some_alike _ _ es
-        (λ e _.
-        in_order (ok e) (selects c.records e x) (from_origin e o) (for_purpose e u)
-        (stands_for c.roles d.subject e.subject r) (in_minutes e.from e.until m)))
-
-    pub tables_found :
-        (records : RecordSet) (t : Minutes) {r : Bool} → records ≡ record_set_of (selects c.records d) →
-        MinutesOf (start clock d) d.until rows.from rows.until (length es) t →
-        r
-        ≡ all_covered
-        (record { records = records; origins = d.subject_origins; purposes = d.purposes; roles = roles })
-        rows.low rows.high by_origin by_purpose by_role t →
-        r ≡ included_found c clock ok d es
-    unfolding all_covered level_covered minutes_covered included_found
-    tables_found records t is_records is_minutes e =
-        e
-        ∙ of_same 128 (length c.records) (contains records) (selects c.records d) _ _ few_records
-        (λ x h. ap (λ (w : RecordSet). contains w x) is_records ∙ contains_words (selects c.records d) x h ∙ selects_cut x)
-        (λ x hx _.
-        of_same 16 16 (from_origin d) (from_origin d) _ _ (omega arith) (λ o h. rw (lt-ltb o 16 h))
-        (λ o ho to.
-        of_same 11 11 (for_purpose d) (for_purpose d) _ _ (omega arith) (λ u h. rw (lt-ltb u 11 h))
-        (λ u hu tu.
-        of_same 16 (length c.roles) (λ r. bit r roles) (stands_for c.roles d.subject d.subject) _ _ few_roles role_bit
-        (λ r hr tr.
-        is_minutes.masks (λ m. not (eqb (bit_and (narrowed rows by_origin by_purpose by_role x o u r) m) 0))
-        ∙ minutes_met (λ m. not (eqb (bit_and (narrowed rows by_origin by_purpose by_role x o u r) (minute_column rows.from rows.until (length es) m)) 0))
-        (covered_at c ok d es x o u r) (λ m. masks_meet x o u r m (omega arith) (ho, to) (omega arith, tu) (hr, tr))))))
+  pub tables_found :
+      {b : Bool} → b ≡ all_covered a (entries_of list) t → b ≡ redundant_found (holding roles rs) clock a.directive (directives_of list)
+  unfolding all_covered level_covered minutes_covered included_found
+  tables_found e =
+      let d = a.directive in
+      e
+      ∙ of_same 128 (length rs) (contains a.selected) (selects rs d) _ _ given.few
+      (λ x h. selects_own rs given.own given.few x ∙ selects_cut x)
+      (λ x hx _.
+      of_same 16 16 (from_origin d) (from_origin d) _ _ (omega arith) (λ o h. rw (lt-ltb o 16 h))
+      (λ o ho to.
+      of_same 11 11 (for_purpose d) (for_purpose d) _ _ (omega arith) (λ u h. rw (lt-ltb u 11 h))
+      (λ u hu tu.
+      of_same 16 (length roles) (λ r. bit r t.roles) (stands_for roles d.subject d.subject) _ _ few_roles role_bit
+      (λ r hr tr.
+      let narrowed =
+      bit_and
+      (bit_and (bit_and (record_mask (entries_of list) d.permit x) (get_or t.by_origin o 0)) (get_or t.by_purpose u 0))
+      (get_or t.by_role r 0) in
+      let r_in : r < 16 = omega arith in
+      ap (all_in (λ m. not (eqb (bit_and narrowed m) 0))) is.minutes
+      ∙ spanned (in_minutes (start clock d) d.until) _ (covered_at (holding roles rs) (same_effect d) d (directives_of list) x o u r)
+      (minute_mask (entries_of list))
+      (λ m. masks_meet x o u r m (ho, to) (omega arith, tu) (r_in, role_bit r r_in ∙ rw (lt-ltb r (length roles) hr, tr)))
+      (boundaries_of (start clock d) (entries_of list))
+      ∙ ap (all_in _) (ap (λ ms. start clock d ∷ ms) (sym (map-map (λ (e : Directive). e.until) (λ (b : Active). b.directive) (entries_of list))))))))

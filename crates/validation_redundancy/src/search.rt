@@ -3,24 +3,15 @@ ghost use Rattle.std.specs.Prelude.{◌≡◌, ◌&&◌, not, List, ◌≤◌, l
 ghost use Rattle.std.specs.Int.Bits.{bit_and};
 ghost use Rattle.register.specs.declared.Record.{Record as Held};
 ghost use Rattle.register.specs.Register.{role_places, holding};
-ghost use Rattle.active.specs.Active.{directives_of};
+ghost use Rattle.active.specs.Active.{entries_of, directives_of};
 ghost use Rattle.validation_meaning.specs.Meaning.{redundant};
 ghost use Rattle.validation_meaning.specs.Search.{redundant_found, Fit};
 ghost use Rattle.validation_conflict.specs.Given.{Given};
 ghost use Rattle.validation_redundancy.specs.Masks.{all_covered};
 
-use crate::tables::{Minutes, columns, minutes_of, record_column, rows_of, standing_roles};
+use crate::masks::{origin_mask, purpose_mask, record_mask, role_mask, standing_roles};
+use crate::tables::{Tables, minutes_of, table};
 use active::{Active, ActiveList};
-use sets::record_set::RecordSet;
-
-// What a draft extends over in the dimensions but the minute: roles are those of the person who stands for its subject.
-#[derive(Clone, Copy)]
-struct Extent {
-    records: RecordSet,
-    origins: u16,
-    purposes: u16,
-    roles: u16,
-}
 
 // Whether the directives of `done`, which leave nothing uncovered, are all among those of `mask`.
 fn known(done: u32, mask: u32) -> bool
@@ -31,30 +22,23 @@ fn known(done: u32, mask: u32) -> bool
 
 // Whether no request is left uncovered: the search is left at the first that is. At each level a mask of the directives that
 // match so far is narrowed; one that has in it all of the last mask that left nothing uncovered leaves nothing uncovered.
-fn all_covered<'a>(
-    extent: Extent,
-    low: &'a [u64; active::PLACES],
-    high: &'a [u64; active::PLACES],
-    by_origin: &[u32; 16],
-    by_purpose: &[u32; 16],
-    by_role: &[u32; 16],
-    minutes: Minutes,
-) -> bool
-    requires { minutes.count ≤ 33 }
-    ensures { result ≡ all_covered extent low.now high.now by_origin.now by_purpose.now by_role.now minutes }
+fn all_covered(a: &Active, list: &ActiveList, tables: &Tables) -> bool
+    ensures { result ≡ all_covered a.now (entries_of list.now) tables.now }
 {
-    let records = extent.records;
-    let origins = extent.origins;
-    let purposes = extent.purposes;
-    let roles = extent.roles;
+    let permit = a.directive.permit;
+    let records = a.selected;
+    let origins = a.directive.subject_origins;
+    let purposes = a.directive.purposes;
+    let roles = tables.roles;
+    let minutes = tables.minutes.as_slice();
     let mut covered = true;
     let mut done_at_item: u32 = 0;
     'item: for x in 0..128usize {
         if !records.contains(x) {
             continue 'item;
         }
-        let a = record_column(low, high, x);
-        if known(done_at_item, a) {
+        let at_item = record_mask(list, permit, x);
+        if known(done_at_item, at_item) {
             continue 'item;
         }
         let mut done_at_origin: u32 = 0;
@@ -62,8 +46,8 @@ fn all_covered<'a>(
             if (origins >> o) % 2 == 0 {
                 continue 'origin;
             }
-            let b = a & by_origin[o];
-            if known(done_at_origin, b) {
+            let at_origin = at_item & tables.by_origin[o];
+            if known(done_at_origin, at_origin) {
                 continue 'origin;
             }
             let mut done_at_purpose: u32 = 0;
@@ -71,8 +55,8 @@ fn all_covered<'a>(
                 if (purposes >> u) % 2 == 0 {
                     continue 'purpose;
                 }
-                let c = b & by_purpose[u];
-                if known(done_at_purpose, c) {
+                let at_purpose = at_origin & tables.by_purpose[u];
+                if known(done_at_purpose, at_purpose) {
                     continue 'purpose;
                 }
                 let mut done_at_role: u32 = 0;
@@ -80,23 +64,23 @@ fn all_covered<'a>(
                     if (roles >> r) % 2 == 0 {
                         continue 'role;
                     }
-                    let e = c & by_role[r];
-                    if known(done_at_role, e) {
+                    let at_role = at_purpose & tables.by_role[r];
+                    if known(done_at_role, at_role) {
                         continue 'role;
                     }
-                    'minute: for k in 0..minutes.count {
-                        if e & minutes.masks[k] == 0 {
+                    'minute: for mask in minutes {
+                        if at_role & *mask == 0 {
                             covered = false;
                             break 'item;
                         }
                     }
-                    done_at_role = e;
+                    done_at_role = at_role;
                 }
-                done_at_purpose = c;
+                done_at_purpose = at_purpose;
             }
-            done_at_origin = b;
+            done_at_origin = at_origin;
         }
-        done_at_item = a;
+        done_at_item = at_item;
     }
     covered
 }
@@ -108,24 +92,18 @@ pub fn is_redundant(parents: &[u8], clock: u32, a: &Active, list: &ActiveList) -
     ensures meant { (rs : List Held) → Given rs a.now list.now → Fit (holding parents.now rs) a.now.directive → result ≡ redundant (holding parents.now rs) clock a.now.directive (directives_of list.now) }
 {
     let d = &a.directive;
-    let extent = Extent {
-        records: a.selected,
-        origins: d.subject_origins,
-        purposes: d.purposes,
-        roles: standing_roles(parents, d.subject, d.subject),
-    };
-    let rows = rows_of(parents, d, list);
-    let by_origin = columns(&rows.origins, extent.origins);
-    let by_purpose = columns(&rows.purposes, extent.purposes);
-    let by_role = columns(&rows.roles, extent.roles);
-    let minutes = minutes_of(clock, d, &rows.from, &rows.until, list.as_slice().len());
-    all_covered(
-        extent,
-        &rows.low,
-        &rows.high,
-        &by_origin,
-        &by_purpose,
-        &by_role,
+    let s = d.subject;
+    let roles = standing_roles(parents, s);
+    let by_origin = table(d.subject_origins, |k| origin_mask(list, k));
+    let by_purpose = table(d.purposes, |k| purpose_mask(list, k));
+    let by_role = table(roles, |k| role_mask(list, parents, s, u16::from(k)));
+    let minutes = minutes_of(clock, d, list);
+    let tables = Tables {
+        by_origin,
+        by_purpose,
+        roles,
+        by_role,
         minutes,
-    )
+    };
+    all_covered(a, list, &tables)
 }

@@ -1,207 +1,85 @@
-// The tables of the search: the active directives' sets as rows of numbers, and the masks of those that have a bit.
-ghost use Rattle.std.specs.Prelude.{◌≡◌, ◌&&◌, List, ◌∷◌, ℕ, ◌*◌, ◌^◌, ◌<◌, ◌≤◌, length, slice_index_or, nat_lt};
-ghost use Rattle.sets.specs.Quantifiers.{pick, one_if};
-ghost use Rattle.sets.specs.Bits.{bit, set_of};
-ghost use Rattle.sets.specs.RecordSets.{record_set_of};
-ghost use Rattle.register.specs.declared.Record.{Record as Held};
-ghost use Rattle.register.specs.Register.{role_places, record_places, holding};
-ghost use Rattle.directive.specs.Places.{active_places};
-ghost use Rattle.directive.specs.Selection.{selects};
-ghost use Rattle.active.specs.Active.{directives_of, active_in, ActiveInvariant};
-ghost use Rattle.validation_meaning.specs.Meaning.{same_effect};
-ghost use Rattle.validation_meaning.specs.Search.{start, stands_for};
-ghost use Rattle.validation_redundancy.specs.Masks.{role_row, column, record_column, minute_column, RowsOf, MinutesOf};
+// The tables of the search: the masks of the values that a draft has, and those of its boundary minutes.
+ghost use Rattle.std.specs.Prelude.{◌≡◌, ◌+◌, ◌<◌, ◌++◌, ◌∷◌, [], ℕ, true, length, map, slice_index_or};
+ghost use Rattle.sets.specs.Quantifiers.{keep};
+ghost use Rattle.sets.specs.Bits.{bit};
+ghost use Rattle.directive.specs.Matching.{in_minutes};
+ghost use Rattle.active.specs.Active.{entries_of};
+ghost use Rattle.validation_meaning.specs.Search.{start};
+ghost use Rattle.validation_redundancy.specs.Masks.{minute_mask, boundaries_of, masks_of};
 
-use active::{Active, ActiveList};
-use directive::{Directive, Subject};
-use register::{ROLES, roles};
-use sets::record_set::RecordSet;
-use validation_conflict::minutes;
+use crate::masks::minute_mask;
+use active::ActiveList;
+use directive::Directive;
+use sets::bits;
+use validation_conflict::minutes::{first_minute, within};
 
-// The rows of the active directives, one number each.
+// How many boundary minutes there can be: the first, and the end of each active directive.
+const BOUNDARIES: usize = active::PLACES + 1;
+
+// The masks at the boundary minutes that a draft spans.
 #[derive(Clone, Copy)]
-pub struct Rows {
-    pub roles: [u64; active::PLACES],
-    pub origins: [u64; active::PLACES],
-    pub purposes: [u64; active::PLACES],
-    pub low: [u64; active::PLACES],
-    pub high: [u64; active::PLACES],
-    pub from: [u32; active::PLACES],
-    pub until: [u32; active::PLACES],
+pub struct Minutes {
+    pub masks: [u32; BOUNDARIES],
+    pub count: usize,
 }
 
-// The roles in which the subject t covers the person who stands for s.
-pub fn standing_roles(parents: &[u8], s: Subject, t: Subject) -> u16
-    ensures { result ≡ set_of role_places (λ k. nat_lt k (length parents.now) && stands_for parents.now s t k) }
-{
-    match t {
-        Subject::Role(k) => roles::covered_set(parents, k),
-        Subject::Person(k) => match s {
-            Subject::Person(n) if n == k => every_role(parents.len()),
-            _ => 0,
-        },
-    }
+// The masks at the values of each dimension but the record, for a draft: roles are those of the person who stands for its subject.
+#[derive(Clone, Copy)]
+pub struct Tables {
+    pub by_origin: [u32; 16],
+    pub by_purpose: [u32; 16],
+    pub roles: u16,
+    pub by_role: [u32; 16],
+    pub minutes: Minutes,
 }
 
-// The first n roles, as a set.
-fn every_role(n: usize) -> u16
-    ensures { result ≡ set_of role_places (λ k. nat_lt k n) }
-{
-    let mut set: u16 = 0;
-    for q in 0..n.min(ROLES) as u16 {
-        set += 1 << q;
-    }
-    set
-}
-
-// The roles in which e covers the person who stands for d's subject.
-fn role_row(parents: &[u8], d: &Directive, e: &Directive) -> u64
-    ensures { result ≡ role_row parents.now d.now e.now }
-{
-    u64::from(standing_roles(parents, d.subject, e.subject))
-}
-
-// The records that an active directive selects, if it counts.
-fn record_row(counts: bool, a: &Active) -> RecordSet
-    ensures { (rs : List Held) → a.now ≡ active_in rs a.now.directive → result ≡ record_set_of (λ x. counts && selects rs a.now.directive x) }
-{
-    if counts {
-        a.selected
-    } else {
-        RecordSet::empty()
-    }
-}
-
-// The rows of the active directives for the draft d; those of its effect count.
-pub fn rows_of(parents: &[u8], d: &Directive, list: &ActiveList) -> Rows
-    ensures { (rs : List Held) → ActiveInvariant rs list.now → RowsOf (holding parents.now rs) (same_effect d.now) d.now (directives_of list.now) (length (directives_of list.now)) result }
-{
-    let none = [0u64; active::PLACES];
-    let never = [0u32; active::PLACES];
-    let mut rows = Rows {
-        roles: none,
-        origins: none,
-        purposes: none,
-        low: none,
-        high: none,
-        from: never,
-        until: never,
-    };
-    for (i, a) in list.as_slice().iter().enumerate() {
-        let e = &a.directive;
-        let w = record_row(d.permit == e.permit, a);
-        rows.roles[i] = role_row(parents, d, e);
-        rows.origins[i] = u64::from(e.subject_origins);
-        rows.purposes[i] = u64::from(e.purposes);
-        rows.low[i] = w.low;
-        rows.high[i] = w.high;
-        rows.from[i] = e.from;
-        rows.until[i] = e.until;
-    }
-    rows
-}
-
-// The directives whose row has k.
-fn column_of(rows: &[u64; active::PLACES], k: usize) -> u32
-    requires { k < 64 }
-    ensures { result ≡ column rows.now k }
-{
-    let mut mask: u32 = 0;
-    for i in 0..32usize {
-        mask = mask + bit_at((rows[i] >> k) % 2 == 1, i);
-    }
-    mask
-}
-
-fn bit_at(b: bool, i: usize) -> u32
-    requires { i < active_places }
-    ensures { result ≡ one_if b * 2 ^ i }
-{
-    if b { 1 << i } else { 0 }
-}
-
-// The masks of those numbers that are in the set, and 0 for the others.
-pub fn columns(rows: &[u64; active::PLACES], set: u16) -> [u32; 16]
-    ensures { (k : ℕ) → k < 16 → slice_index_or result k 0 ≡ pick (bit k set) (column rows.now k) 0 }
+// The masks of the numbers in the set; free for the others.
+pub fn table<F: Fn(u8) -> u32>(set: u16, mask: F) -> [u32; 16]
+    requires { F.IsAlwaysCallable mask }
+    ensures { (f : ℕ → ℕ) → ((k : ℕ) (m : ℕ) → F.post mask k m → m ≡ f k) → (k : ℕ) → k < 16 → bit k set ≡ true → slice_index_or result k 0 ≡ f k }
 {
     let mut table = [0u32; 16];
-    for k in 0..16usize {
-        if (set >> k) % 2 == 1 {
-            table[k] = column_of(rows, k);
+    for k in 0..16u8 {
+        if bits::has(set, k) {
+            table[usize::from(k)] = mask(k);
         }
     }
     table
 }
 
-pub fn record_column(low: &[u64; active::PLACES], high: &[u64; active::PLACES], x: usize) -> u32
-    requires { x < record_places }
-    ensures { result ≡ record_column low.now high.now x }
-{
-    if x < 64 {
-        column_of(low, x)
-    } else {
-        column_of(high, x - 64)
+impl Minutes {
+    pub fn as_slice(&self) -> &[u32]
+        ensures { result.now ≡ masks_of self.now }
+    {
+        &self.masks[..self.count.min(BOUNDARIES)]
+    }
+
+    // Puts one mask more last.
+    fn push(&mut self, mask: u32)
+        requires { self.old.count < BOUNDARIES }
+        ensures count { self.new.count ≡ self.old.count + 1 }
+        ensures masks { masks_of self.new ≡ masks_of self.old ++ (mask ∷ []) }
+    {
+        self.masks[self.count] = mask;
+        self.count += 1;
     }
 }
 
-// Those of the first n directives that match at the minute.
-fn minute_column(
-    from: &[u32; active::PLACES],
-    until: &[u32; active::PLACES],
-    n: usize,
-    minute: u32,
-) -> u32
-    requires { n ≤ active_places }
-    ensures { result ≡ minute_column from.now until.now n minute }
+// The masks at the boundary minutes that the draft d spans: where it starts, and where the active directives end.
+pub fn minutes_of(clock: u32, d: &Directive, list: &ActiveList) -> Minutes
+    ensures { masks_of result ≡ map (minute_mask (entries_of list.now)) (keep (in_minutes (start clock d.now) d.now.until) (boundaries_of (start clock d.now) (entries_of list.now))) }
 {
-    let mut mask: u32 = 0;
-    for i in 0..n {
-        mask = mask + bit_at(minutes::within(from[i], until[i], minute), i);
+    let first = first_minute(d, clock);
+    let masks = [0u32; BOUNDARIES];
+    let mut minutes = Minutes { masks, count: 0 };
+    if within(first, d.until, first) {
+        minutes.push(minute_mask(list, first));
     }
-    mask
-}
-
-// The masks at the boundary minutes that the draft spans.
-#[derive(Clone, Copy)]
-pub struct Minutes {
-    pub masks: [u32; 33],
-    pub count: usize,
-}
-
-// Boundary minute i: the first is where the draft starts, and the others are where the directives end.
-fn boundary(first: u32, until: &[u32; active::PLACES], i: usize) -> u32
-    requires { i ≤ active_places }
-    ensures { result ≡ slice_index_or (first ∷ until.now) i 0 }
-{
-    if i == 0 {
-        return first;
-    }
-    until[i - 1]
-}
-
-// The masks for the draft d; the first n directives count.
-pub fn minutes_of<'a>(
-    clock: u32,
-    d: &Directive,
-    from: &'a [u32; active::PLACES],
-    until: &'a [u32; active::PLACES],
-    n: usize,
-) -> Minutes
-    requires { n ≤ active_places }
-    ensures { MinutesOf (start clock d.now) d.now.until from.now until.now n result }
-{
-    let first = minutes::first_minute(d, clock);
-    let mut masks = [0u32; 33];
-    let mut count: usize = 0;
-    for i in 0..n + 1 {
-        let minute = boundary(first, until, i);
-        if minutes::within(first, d.until, minute) {
-            masks[count] = minute_column(from, until, n, minute);
-            count = count + 1;
+    for a in list.as_slice() {
+        let minute = a.directive.until;
+        if within(first, d.until, minute) {
+            minutes.push(minute_mask(list, minute));
         }
     }
-    Minutes {
-        masks: masks,
-        count: count,
-    }
+    minutes
 }

@@ -1,24 +1,33 @@
 -- `run`: what was read is the card; what is shown of it is written, or cut.
-use Rattle.std.proofs.Common.{take, rules, w32}
-use Rattle.std.proofs.lemmas.Int.{to_z-of_z}
-use Rattle.program_access.specs.Table.{draft_where}
+use Rattle.std.proofs.Common.{List, ℕ, take, rules}
+use Rattle.std.proofs.lemmas.Result.{err_from_is_err_and}
+use Rattle.std.specs.Option.{option_copied}
+use Rattle.streams.specs.declared.Status.TheVariants.{Failed}
+use Rattle.streams.proofs.ReadLaws.{first_bytes}
 use Rattle.program_access.specs.Promises.{Answers}
-use Rattle.program_access.proofs.RunLaws.{first_bytes, answered}
+use Rattle.program_access.proofs.RunLaws.{answered, cut}
 use Rattle.program_access.proofs.run.Goals as goal
 
-pub returns-clause-answers : goal.returns-clause-answers
-returns-clause-answers g c =
-    let d = draft_where c.args.has_draft c.args.draft.now in
+pub returns-in_err-put : goal.returns-in_err-put
+returns-in_err-put g c =
+    let p = err_from_is_err_and c.from_residual-in_err-put.result c.from_residual-in_err-put.ensures.1 in
+    let d = option_copied c.args.draft in
     let w = c.args.w in
-    let shown = c.access-shown.result in
-    let out = c.access-shown.new.out in
-    let buffer = c.fill-filled.new.buf in
-    let read = c.in-Bytes.ensures in
     let before = g.W.Write.contents c.args.output.now in
-    let after = g.W.Write.contents c.put-written.new.output in
-    let written = c.put-written.result in
-    let result = c.status.result in
-    let status = rw (to_z-of_z w32 c.status_of.result (search rules), c.status_of.ensures) at c.status.ensures.value in
-    rw (to_z-of_z w32 result (search rules))
-    (first_bytes 65535 _ _ c.in-Bytes.n buffer (λ card. Answers card d w result before after) (search rules) read.fills.0 read.bytes.0 read.bytes.1
-    (answered (take c.in-Bytes.n buffer) d w shown out before after written result c.access-shown.ensures c.put-written.ensures status))
+    let after = g.W.Write.contents c.put.new.output in
+    let read = c.in_ok-n.ensures in
+    let buffer = c.fill.new.buf in
+    let shown = cut (take c.in_ok-n.n buffer) d w before after c.access-shown.ensures c.in_err-put.ensures in
+    rw p.1
+    (first_bytes 65535 _ _ c.in_ok-n.n buffer (λ (card : List ℕ). Answers card d w Failed before after) (search rules) read.fills.0 read.bytes.0 read.bytes.1 shown)
+
+pub returns : goal.returns
+returns g c =
+    let d = option_copied c.args.draft in
+    let w = c.args.w in
+    let before = g.W.Write.contents c.args.output.now in
+    let after = g.W.Write.contents c.put.new.output in
+    let read = c.in_ok-n.ensures in
+    let buffer = c.fill.new.buf in
+    let shown = answered (take c.in_ok-n.n buffer) d w before after c.access-shown.ensures c.in_ok-put.ensures in
+    first_bytes 65535 _ _ c.in_ok-n.n buffer (λ (card : List ℕ). Answers card d w c.access-shown.result.status before after) (search rules) read.fills.0 read.bytes.0 read.bytes.1 shown

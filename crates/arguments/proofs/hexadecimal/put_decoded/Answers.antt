@@ -1,18 +1,13 @@
-use Rattle.std.proofs.Common.{◌≡◌, ◌<◌, ◌/◌, length, rules, sym, ◌∙◌}
+use Rattle.std.proofs.Common.{◌≡◌, ◌/◌, ◌++◌, ap, sym, ◌∙◌, rules, length, drop}
+use Rattle.std.proofs.lemmas.List.{ext_get_or}
 use Rattle.arguments.specs.Hexadecimal.{bytes_of}
-use Rattle.arguments.proofs.HexadecimalLaws.{bytes_length, put_next, put_all}
+use Rattle.arguments.proofs.HexadecimalLaws.{bytes_length}
 use Rattle.arguments.proofs.hexadecimal.put_decoded.Goals as goal
-
-pub loop-k-preserved : goal.loop-k-preserved
-loop-k-preserved c =
-    let bs = bytes_of c.args.digits.now in
-    let k = c.loop-k.k in
-    let here : k < length bs = rw bytes_length (search rules) in
-    (search rules, rw (c.loop-k.invariant.1, c.byte_at.ensures) (put_next c.args.out.now bs k (search rules) here))
 
 pub returns : goal.returns
 returns c =
     let digits = c.args.digits.now in
-    let k = c.loop-k.k in
-    let all : k ≡ length digits / 2 = search rules in
-    rw (← all) (c.loop-k.invariant.1 ∙ put_all c.args.out.now (bytes_of digits) k (all ∙ sym (bytes_length digits)))
+    let bytes = c.loop-k.byte-items in
+    let size : length bytes ≡ length digits / 2 = search rules in
+    let same = ext_get_or 0 bytes (bytes_of digits) (size ∙ sym (bytes_length digits)) (λ i h. c.loop-k.invariant i (search rules)) in
+    ap (λ l. l ++ drop (length digits / 2) c.args.out.now) same

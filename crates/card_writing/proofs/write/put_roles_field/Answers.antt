@@ -1,12 +1,13 @@
 -- `write::put_roles_field`: tag and count, and then the parents.
-use borrow.Author.Rules.{rules}
-use lib.ListN.{take}
-use lib.Seq.{length-take-le}
-use Rattle.card_writing.proofs.WriteLaws.{put_field}
+use Prim.Native.Nat.{◌+◌}
+use mathlib.Core.Path.{refl}
+use native.Mathlib.Omega.{arith}
+use lib.ListN.{length}
+use Rattle.card_writing.proofs.WriteLaws.{put_field, put_part}
 use Rattle.card_writing.proofs.write.put_roles_field.Goals as goal
 
 pub returns : goal.returns
 returns c =
-    put_field c.args.s.now c.args.at 0x02 c.args.n (take c.args.n c.args.parents)
-    (length-take-le c.args.n c.args.parents (search rules))
-    c.put_tag.ensures c.put_parents.ensures
+    let parents = c.args.parents.now in
+    put_field c.args.s.now c.args.at 0x02 (length parents) parents refl c.put_tag.ensures
+    (rw c.copy_from_slice.ensures.after (put_part _ parents (c.args.at + 3) _ refl (omega (arith, c.put_tag.auto.s))))

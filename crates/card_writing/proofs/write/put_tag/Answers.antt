@@ -9,6 +9,6 @@ pub returns : goal.returns
 unfolding bytes
 returns c =
     let v = c.args.tag in
-    let to_tag = put_first {s = c.args.s.now} c.args.at 1 v c.put1.ensures in
-    let to_size = put_next 2 c.args.size to_tag c.put2.ensures in
+    let to_tag = put_first {s = c.args.s.now} c.args.at 1 v c.put.ensures in
+    let to_size = put_next 2 c.args.size to_tag c.put-2.ensures in
     rw (mod-eq_of_lt {n = v} {m = 256} (search rules)) at to_size.stored

@@ -1,89 +1,65 @@
 -- `write::write`: the counts are those of the ledger's lists, and the four parts stand one after another.
-use Prim.Native.Nat.{◌≤◌}
-use mathlib.Core.Path.{◌≡◌, refl, sym, ◌∙◌}
+use Prim.Native.Nat.{◌+◌, ◌*◌}
+use mathlib.Core.Path.{◌≡◌, ap, sym, ◌∙◌}
 use native.Mathlib.Omega.{arith}
-use borrow.Author.Rules.{rules}
-use lib.ListN.{length, length-take, length-map}
-use Rattle.sets.proofs.Lists.{take_held}
-use Rattle.register.proofs.ArrayLaws.{long_mapped}
-use Rattle.active.proofs.ListLaws.{entries_counted}
-use Rattle.ledger.specs.declared.Ledger.{Ledger}
+use borrow.Author.Tests.{eqb-true, eq-eqb}
+use lib.ListN.{length, length-map}
+use Rattle.sets.proofs.Quantifiers.{both_ways}
+use Rattle.active.specs.declared.Active.{Active}
+use Rattle.active.specs.Active.{entries_of}
 use Rattle.ledger.specs.State.{view}
-use Rattle.card_writing.proofs.WriteLaws.{card_size, put_card, fills_none, fills_short, fills_written}
-use Rattle.card_writing.proofs.write.write.Goals.{Else-records-eq0}
+use Rattle.card.specs.Writing.{record_fields, card_bytes}
+use Rattle.card.proofs.Written.{one_a_record, one_a_directive}
+use Rattle.card_writing.proofs.WriteLaws.{card_size, put_card, fills_none, fills_short, fills_written, each_mapped}
+use Rattle.card_writing.proofs.write.write.Goals.{Else-is_empty, After-as_slice-active}
 use Rattle.card_writing.proofs.write.write.Goals as goal
 
--- each list is at most as long as the array that holds it
-record Few (l : Ledger) : Type 0 where
-  roles : length (view l).register.roles ≤ 16
-  records : length (view l).register.records ≤ 128
-  active : length (view l).active ≤ 32
+-- the lists that the parts are written from are those of the ledger
+record Lists (c : After-as_slice-active) : Type 0 where
+  roles : c.roles-roles.result.now ≡ (view c.args.ledger.now).register.roles
+  records : c.records-records.result.now ≡ (view c.args.ledger.now).register.records
+  active : c.as_slice-active.result.now ≡ entries_of c.args.ledger.now.active
 
-few : (c : Else-records-eq0) → Few c.args.l
-few c =
-    let l = c.args.l in
-    let parents : length l.register.roles ≡ 16 = search rules in
-    let items : length l.register.records ≡ 128 = search (rules, long_mapped) in
-    let places : length l.active.entries ≡ 32 = search (rules, long_mapped) in
+lists : (c : After-as_slice-active) → Lists c
+lists c =
     record {
-      roles = omega (arith, length-take l.register.role_count l.register.roles);
-      records = omega (arith, length-take l.register.record_count l.register.records);
-      active = simp (length-map, length-take) (omega arith);
+      roles = rw (c.roles-roles.ensures.value, c.register.ensures);
+      records = rw (c.records-records.ensures.value, c.register-2.ensures);
+      active = rw (c.as_slice-active.ensures.value, c.active.ensures);
     }
 
-pub returns-then-records-eq0 : goal.returns-then-records-eq0
-returns-then-records-eq0 c invariant =
-    fills_none (sym c.record_count-records.ensures ∙ c.if-records-eq0.true)
+-- how many bytes the card has
+size :
+    (c : After-as_slice-active) →
+    13 + length c.roles-roles.result.now + 13 * length c.records-records.result.now + 28 * length c.as_slice-active.result.now
+    ≡ length (card_bytes (view c.args.ledger.now))
+size c =
+    let held = lists c in
+    let counted : length c.as_slice-active.result.now ≡ length (view c.args.ledger.now).active = rw (held.active, length-map) in
+    omega (arith, card_size (view c.args.ledger.now), ap length held.roles, ap length held.records, counted)
 
-pub overflow_add-at_records : goal.overflow_add-at_records
-overflow_add-at_records c =
-    let h = few (goal.at.overflow_add-at_records c).Else-records-eq0 in search rules
+some : (c : Else-is_empty) → length c.records-records.result.now ≡ 0 → ⊥
+some c e = both_ways (eq-eqb _ 0 e) (sym c.is_empty.ensures ∙ c.if-is_empty.false)
 
-pub overflow_mul-at_directives : goal.overflow_mul-at_directives
-overflow_mul-at_directives c =
-    let h = few (goal.at.overflow_mul-at_directives c).Else-records-eq0 in search rules
-
-pub overflow_add-at_directives : goal.overflow_add-at_directives
-overflow_add-at_directives c =
-    let h = few (goal.at.overflow_add-at_directives c).Else-records-eq0 in search rules
-
-pub overflow_mul-size : goal.overflow_mul-size
-overflow_mul-size c = let h = few (goal.at.overflow_mul-size c).Else-records-eq0 in search rules
-
-pub overflow_add-size : goal.overflow_add-size
-overflow_add-size c = let h = few (goal.at.overflow_add-size c).Else-records-eq0 in search rules
+pub returns-then-is_empty : goal.returns-then-is_empty
+returns-then-is_empty c invariant =
+    let held = lists (goal.at.returns-then-is_empty c).After-as_slice-active in
+    fills_none (rw held.records at (eqb-true _ 0 (sym c.is_empty.ensures ∙ c.if-is_empty.true)))
 
 pub returns-then-buffer-size : goal.returns-then-buffer-size
 returns-then-buffer-size c invariant =
-    let l = c.args.l in
-    let k = c.record_count-records.ensures in
-    fills_short (λ e. c.if-records-eq0.false (k ∙ e)) (omega (arith, card_size (view l)))
-
-pub put_roles_field-requires : goal.put_roles_field-requires
-put_roles_field-requires c =
-    let h = few (goal.at.put_roles_field-requires c).Else-records-eq0 in
-    search rules
-
-pub put_records-requires : goal.put_records-requires
-put_records-requires c =
-    let h = few (goal.at.put_records-requires c).Else-records-eq0 in
-    search rules
-
-pub put_directives-requires : goal.put_directives-requires
-put_directives-requires c =
-    let h = few (goal.at.put_directives-requires c).Else-records-eq0 in
-    search rules
+    let at = goal.at.returns-then-buffer-size c in
+    let held = lists at.After-as_slice-active in
+    fills_short (rw held.records at (some at.Else-is_empty)) (omega (arith, size at.After-as_slice-active))
 
 pub returns : goal.returns
 returns c invariant =
-    let l = c.args.l in
-    let g = l.register in
-    let n = c.role_count-roles.ensures in
-    let k = c.record_count-records.ensures in
-    let i = c.active_count-directives.ensures in
-    fills_written (λ e. c.if-records-eq0.false (k ∙ e)) _ (rw (n, k, i) (sym (card_size (view l)))) c.if-buffer-size.false
-    (put_card (view l) c.args.buffer.now
-    (rw (c.patient.ensures, c.clock.ensures) at c.put_head_field.ensures)
-    (rw (c.register_of-g.ensures, n, take_held g.role_count g.roles) at c.put_roles_field.ensures)
-    (rw (c.register_of-g.ensures, n, k, take_held g.record_count g.records) at c.put_records.ensures)
-    (rw (c.active_of-list.ensures, n, k, i, entries_counted l.active refl) at c.put_directives.ensures))
+    let at = goal.at.returns c in
+    let held = lists at.After-as_slice-active in
+    let each = each_mapped (λ (a : Active). a.directive) one_a_directive in
+    fills_written (rw held.records at (some at.Else-is_empty)) _ (size at.After-as_slice-active) c.if-buffer-size.false
+    (put_card (view c.args.ledger.now) c.args.buffer.now
+    (rw (c.patient.ensures, c.clock.ensures) at c.put_field.ensures)
+    (rw held.roles at c.put_roles_field.ensures)
+    (rw (held.roles, held.records) at (c.put_fields.ensures record_fields one_a_record))
+    (rw (held.roles, held.records, held.active) at (c.put_fields-2.ensures _ each)))

@@ -1,44 +1,51 @@
--- `disclosure::labelled`: before turn i each word has its places from i on.
-use Prim.Native.Nat.{ℕ, ◌+◌, ◌-◌, ◌*◌, ◌<◌, ◌≤◌}
+-- `disclosure::labelled`: after n turns the word has those of the n last records.
+use Prim.Native.Nat.{ℕ, ◌-◌, ◌<◌}
 use mathlib.Core.Path.{◌≡◌, ap, ◌∙◌}
-use mathlib.Core.Bool.{Bool}
+use mathlib.Core.List.{List}
+use native.Mathlib.Nat.{lt_of_lt_of_le}
 use native.Mathlib.Omega.{arith}
-use Rattle.sets.specs.Quantifiers.{one_if}
+use lib.ListN.{length, get_or}
+use lib.Pow.{pow_mono}
+use Rattle.std.specs.Prelude.{reverse}
+use Rattle.std.proofs.lemmas.List.{length-reverse, length_push, get_or-reverse, get_or_default}
+use Rattle.std.proofs.lemmas.Iterator.Adapters.{YieldsList-from_rev_slice}
+use Rattle.std.proofs.lemmas.Iterator.Consumers.{YieldsList-turn, YieldsList-end}
 use Rattle.sets.specs.Bits.{shares}
-use Rattle.sets.proofs.FillLaws.{HasHighest, highest_none, highest_bound, highest_next, highest_all}
+use Rattle.sets.proofs.FillLaws.{highest_none, highest_bound, highest_next, highest_all}
+use Rattle.register.specs.declared.Record.{Record}
+use Rattle.register.specs.Register.{no_record}
 use Rattle.register.specs.Records.{record_at}
 use Rattle.emergency.proofs.disclosure.labelled.Goals as goal
 
--- the turn of the place below i
-next :
-    {p : ℕ → Bool} {word i : ℕ} {b : Bool} → 0 < i → i ≤ 64 → HasHighest 64 p word (64 - i) → b ≡ p (i - 1) →
-    HasHighest 64 p (word * 2 + one_if b) (64 - (i - 1))
-next {p} {word} {i} {b} l h has e =
-    let less : 64 - (i - 1) ≡ 64 - i + 1 = omega arith in
-    rw less (highest_next has (omega arith) (e ∙ ap p (omega arith)))
+-- the record of turn k, from the last one down
+turn :
+    (rs : List Record) (k : ℕ) (r : Record) → (k < length (reverse rs)) × (r ≡ get_or (reverse rs) k r) →
+    (k < length rs) × (r ≡ record_at rs (length rs - 1 - k))
+turn rs k r h =
+    let l : k < length rs = rw length-reverse at h.0 in
+    (l, h.1 ∙ get_or-reverse rs k r l ∙ get_or_default rs (length rs - 1 - k) r no_record (omega arith))
 
-pub loop-i-init : goal.loop-i-init
-loop-i-init c = (highest_none, highest_none)
+pub loop-r-init : goal.loop-r-init
+loop-r-init c = highest_none
 
-pub doubled-low-requires : goal.doubled-low-requires
-doubled-low-requires c = highest_bound c.loop-i.invariant.0 (omega arith)
+pub doubled-word-requires : goal.doubled-word-requires
+doubled-word-requires c =
+    let now = c.loop-r in
+    let rs = c.args.records.now in
+    let here = turn rs (length now.yielded) c.in-Some.r.now (YieldsList-turn (YieldsList-from_rev_slice rs cc) now.yielded _ now.yielded_by _ _ c.in-Some.r c.in-Some.is c.next.ensures.steps) in
+    lt_of_lt_of_le (highest_bound now.invariant here.0) (pow_mono {j = 63} (omega arith))
 
-pub doubled-high-requires : goal.doubled-high-requires
-doubled-high-requires c = highest_bound c.loop-i.invariant.1 (omega arith)
-
-pub loop-i-preserved : goal.loop-i-preserved
-loop-i-preserved c =
-    let records = c.args.register.now.records in
-    let at : ℕ → Bool = λ k. shares 16 (record_at records k).labels c.args.scope in
-    let now = c.loop-i in
-    let down = c.loop-i-test.true in (
-      rw c.doubled-low.ensures
-          (next down now.auto.i now.invariant.0 (c.meet.ensures ∙ ap at (omega arith))),
-      rw c.doubled-high.ensures
-          (next down now.auto.i now.invariant.1 (c.meet-in-loop-i.ensures ∙ ap at (omega arith))),
-    )
+pub loop-r-preserved : goal.loop-r-preserved
+loop-r-preserved c =
+    let now = c.loop-r in
+    let rs = c.args.records.now in
+    let here = turn rs (length now.yielded) c.in-Some.r.now (YieldsList-turn (YieldsList-from_rev_slice rs cc) now.yielded _ now.yielded_by _ _ c.in-Some.r c.in-Some.is c.next.ensures.steps) in
+    rw (c.doubled-word.ensures, length_push now.yielded c.in-Some.r)
+    (highest_next now.invariant here.0 (c.meet.ensures ∙ ap (λ (r : Record). shares 16 r.labels c.args.scope) here.1))
 
 pub returns : goal.returns
 returns c =
-    let now = c.loop-i in
-    rw (highest_all now.invariant.0 (omega arith), highest_all now.invariant.1 (omega arith))
+    let now = c.loop-r in
+    let rs = c.args.records.now in
+    let done = YieldsList-end (YieldsList-from_rev_slice rs cc) now.yielded _ now.yielded_by _ _ c.in-None.is c.next.ensures.steps in
+    highest_all now.invariant (omega (arith, done.1, length-reverse rs))

@@ -13,13 +13,13 @@ use Rattle.ledger.proofs.CallLaws.{refuses, changes, view_pushed, shape_pushed}
 use Rattle.ledger.proofs.AdmitLaws.{not_accepted, answer_meant, own_selection}
 use Rattle.ledger.proofs.Ledger.admit.Goals as goal
 
-pub returns-in_err-a : goal.returns-in_err-a
+pub returns-in_err-admitted : goal.returns-in_err-admitted
 unfolding admitted_by
-returns-in_err-a c invariant =
+returns-in_err-admitted c invariant =
     let m = view c.args.self.now in
     let p = err_from_is_err_and c.from_residual.result c.from_residual.ensures.1 in
     let e = answer_meant m invariant.model c.args.s c.asked.ensures.widths
-    (ap asked_answer (sym c.in_err-a.was) ∙ c.asked.ensures.answer invariant.shape) in
+    (ap asked_answer (sym c.in_err-admitted.was) ∙ c.asked.ensures.answer invariant.shape) in
     rw (p.1, p.2)
     (refuses invariant (outcome_refused (directive_questions meant m c.args.s) m _ e (not_accepted _)))
 
@@ -29,9 +29,9 @@ returns c invariant =
     let m = view c.args.self.now in
     let s = c.args.s in
     let e = answer_meant m invariant.model s c.asked.ensures.widths
-    (ap asked_answer (sym c.in_ok-a.was) ∙ c.asked.ensures.answer invariant.shape) in
-    let is = IfOk-at_ok _ c.in_ok-a.was c.asked.ensures.meant in
-    let room = IfOk-at_ok _ c.in_ok-a.was c.asked.ensures.room in
+    (ap asked_answer (sym c.in_ok-admitted.was) ∙ c.asked.ensures.answer invariant.shape) in
+    let is = IfOk-at_ok _ c.in_ok-admitted.was c.asked.ensures.meant in
+    let room = IfOk-at_ok _ c.in_ok-admitted.was c.asked.ensures.room in
     changes
     (outcome_accepted (directive_questions meant m s) m _ e refl ∙ rw (view_pushed c.args.self.now c.push.ensures, is))
     (sound_admit m invariant.model s c.asked.ensures.widths)

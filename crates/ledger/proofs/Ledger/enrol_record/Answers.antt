@@ -1,13 +1,14 @@
 -- `Ledger::enrol_record`: a record that fits, of its fields' widths, keeps the register's invariant.
-use Prim.Native.Nat.{◌^◌, ◌<◌}
+use Prim.Native.Nat.{◌^◌}
 use mathlib.Core.Path.{◌≡◌, sym, ap, ◌∙◌}
 use mathlib.Core.Bool.{true}
 use native.Mathlib.Numerals.{add-one}
 use native.Mathlib.Omega.{arith}
 use borrow.Author.Rules.{rules}
 use borrow.Author.Tests.{lt-ltb}
-use lib.ListN.{length, length-take}
+use lib.ListN.{length}
 use lib.Seq.{take-suc-set, length-take-le}
+use Rattle.sets.proofs.Lists.{none_in}
 use Rattle.register.specs.Form.{record_widths}
 use Rattle.register.proofs.ArrayLaws.{long_mapped}
 use Rattle.ledger.specs.declared.Ledger.{Ledger}
@@ -49,15 +50,13 @@ returns c invariant =
     let r = c.args.r in
     let n = l.register.record_count in
     let long : length l.register.records ≡ 128 = search (rules, long_mapped) in
-    let places : length l.register.roles ≡ 16 = search rules in
     let count = counted long invariant in
-    let role : 0 < length (view l).register.roles = simp length-take (omega (arith, c.requires.1, places)) in
     let at : length c.records-at.result.now ≡ n = ap length c.records-at.ensures.value ∙ count in
     let fits = sym (c.fits.ensures _ (sym (ap length c.records-at.ensures.value))) ∙ c.if-not-fits.false in
     enrolled invariant _
     fits
-    (rw c.requires.2)
-    (rw (at, add-one n, take-suc-set l.register.records n r (omega (arith, long, c.requires.0))))
-    (sound_record (view l).register invariant.model.register r role (omega (arith, count, c.requires.0)) fits (widths (goal.at.returns c).Start))
+    (none_in (view l).active c.requires.2)
+    (rw (at, add-one n, take-suc-set l.register.records n r (omega (arith, long, count, c.requires.0))))
+    (sound_record (view l).register invariant.model.register r c.requires.1 c.requires.0 fits (widths (goal.at.returns c).Start))
     invariant.shape.roles_held
-    (omega (arith, at, c.requires.0))
+    (omega (arith, at, count, c.requires.0))

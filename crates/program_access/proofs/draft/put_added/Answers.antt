@@ -1,32 +1,12 @@
--- `draft::put_added`: what a directive's refusal adds, and nothing else.
-use mathlib.Core.Path.{◌≡◌, refl}
-use mathlib.Core.List.{[]}
-use borrow.Author.Rules.{rules}
-use Rattle.ledger.specs.declared.answer.CommitAnswer.{CommitAnswer}
-use Rattle.ledger.specs.declared.answer.CommitAnswer.TheVariants as Commit
-use Rattle.ledger.specs.Answer.{commit_answer}
-use Rattle.ledger.specs.declared.answer.DirectiveRefusal.{DirectiveRefusal}
-use Rattle.text.proofs.PutLaws.{puts_none}
-use Rattle.program_access.specs.Table.{added}
+-- `draft::put_added`: the number of a conflict.
+use mathlib.Core.Path.{ap, ◌∙◌}
+use Rattle.ledger.specs.declared.answer.CommitRefusal.TheVariants as Commit
+use Rattle.text.proofs.PutLaws.{puts_more}
+use Rattle.program_access.specs.Words.{named_word}
 use Rattle.program_access.proofs.draft.put_added.Goals as goal
 
--- another answer adds nothing
-alone : (a : CommitAnswer) → ((why : DirectiveRefusal) → a ≡ Commit.Refused why → ⊥) → added (commit_answer a) ≡ []
-alone Commit.Committed other = refl
-alone Commit.WrongLength other = refl
-alone (Commit.Refused r) other = absurd (other r refl)
-alone Commit.Redundant other = refl
-
-pub returns-in_default : goal.returns-in_default
-returns-in_default c =
-    record {
-      puts = rw (alone c.args.a c.in_default.not-Refused) (puts_none _ _);
-      upper_bound = search rules;
-    }
-
-pub returns : goal.returns
-returns c =
-    record {
-      puts = rw c.in-Refused.is c.put_named.ensures.puts;
-      upper_bound = c.put_named.ensures.upper_bound;
-    }
+pub returns-in-Directive-Conflicts-clause-puts : goal.returns-in-Directive-Conflicts-clause-puts
+unfolding named_word
+returns-in-Directive-Conflicts-clause-puts c =
+    rw (c.in-Directive-Conflicts.is ∙ ap Commit.Directive c.in-Directive-Conflicts.field-0-is)
+    (puts_more c.put_bytes-named.ensures (rw c.from.ensures at c.put_decimal.ensures.puts))

@@ -1,46 +1,27 @@
 -- `words::put_answer`: an answer case by case.
-use native.Mathlib.Omega.{arith}
-use Rattle.text.specs.Text.{decimal_by, numbers_text, next_text}
-use Rattle.program_access.specs.Words.{permit_word, deny_word, basis_word, open_word, patient_word, author_word, directive_word, default_word, close_word, refused_word}
+use mathlib.Core.Path.{ap, ◌∙◌}
+use Rattle.std.proofs.Common.{Ok}
+use Rattle.text.specs.Text.{decimal_by}
+use Rattle.program_access.specs.Words.{permit_word, basis_word, open_word, patient_word, author_word, close_word, refused_word}
 use Rattle.program_access.specs.Table.{answer_text}
 use Rattle.program_access.proofs.words.put_answer.Goals as goal
 
-pub returns-in-Patient : goal.returns-in-Patient
-unfolding permit_word deny_word basis_word open_word default_word patient_word author_word directive_word close_word refused_word decimal_by numbers_text next_text answer_text
-returns-in-Patient c =
-    record {
-      puts = rw c.in-Patient.is c.put_bytes.ensures;
-      upper_bound = omega (arith, c.put_bytes.ensures.place);
-    }
+pub returns-in-Ok-Patient-clause-puts : goal.returns-in-Ok-Patient-clause-puts
+unfolding permit_word basis_word open_word patient_word close_word decimal_by answer_text
+returns-in-Ok-Patient-clause-puts c = rw (c.in-Ok-Patient.is ∙ ap Ok c.in-Ok-Patient.field-0-is) c.put_bytes.ensures
 
-pub returns-in-Author : goal.returns-in-Author
-unfolding permit_word deny_word basis_word open_word default_word patient_word author_word directive_word close_word refused_word decimal_by numbers_text next_text answer_text
-returns-in-Author c =
-    record {
-      puts = rw c.in-Author.is c.put_bytes-in-Author.ensures;
-      upper_bound = omega (arith, c.put_bytes-in-Author.ensures.place);
-    }
+pub returns-in-Ok-Author-clause-puts : goal.returns-in-Ok-Author-clause-puts
+unfolding permit_word basis_word open_word author_word close_word decimal_by answer_text
+returns-in-Ok-Author-clause-puts c = rw (c.in-Ok-Author.is ∙ ap Ok c.in-Ok-Author.field-0-is) c.put_bytes-in-Ok-Author.ensures
 
-pub returns-in-Directive : goal.returns-in-Directive
-unfolding permit_word deny_word basis_word open_word default_word patient_word author_word directive_word close_word refused_word decimal_by numbers_text next_text answer_text
-returns-in-Directive c =
-    record {
-      puts = rw c.in-Directive.is c.put_directive.ensures.puts;
-      upper_bound = c.put_directive.ensures.upper_bound;
-    }
+pub returns-in-Ok-Directive-clause-puts : goal.returns-in-Ok-Directive-clause-puts
+unfolding answer_text
+returns-in-Ok-Directive-clause-puts c = rw (c.in-Ok-Directive.is ∙ ap Ok c.in-Ok-Directive.field-0-is) c.put_directive.ensures.puts
 
-pub returns-in-Default : goal.returns-in-Default
-unfolding permit_word deny_word basis_word open_word default_word patient_word author_word directive_word close_word refused_word decimal_by numbers_text next_text answer_text
-returns-in-Default c =
-    record {
-      puts = rw c.in-Default.is c.put_default.ensures.puts;
-      upper_bound = c.put_default.ensures.upper_bound;
-    }
+pub returns-in-Ok-Default-clause-puts : goal.returns-in-Ok-Default-clause-puts
+unfolding answer_text
+returns-in-Ok-Default-clause-puts c = rw (c.in-Ok-Default.is ∙ ap Ok c.in-Ok-Default.field-0-is) c.put_default.ensures.puts
 
-pub returns-in-NotInRegister : goal.returns-in-NotInRegister
-unfolding permit_word deny_word basis_word open_word default_word patient_word author_word directive_word close_word refused_word decimal_by numbers_text next_text answer_text
-returns-in-NotInRegister c =
-    record {
-      puts = rw c.in-NotInRegister.is c.put_bytes-in-NotInRegister.ensures;
-      upper_bound = omega (arith, c.put_bytes-in-NotInRegister.ensures.place);
-    }
+pub returns-in-Err-clause-puts : goal.returns-in-Err-clause-puts
+unfolding refused_word decimal_by answer_text
+returns-in-Err-clause-puts c = rw c.in-Err.is c.put_bytes-in-Err.ensures

@@ -8,11 +8,11 @@ use Rattle.text.proofs.decimal.put_digits.Goals as goal
 pub loop-i-preserved : goal.loop-i-preserved
 loop-i-preserved c =
     let turn = c.loop-i in
-    let next = last_digit turn.out c.args.at turn.i turn.rest (search rules) turn.invariant.2 in
-    (search rules, search rules, next.0, search rules, next.1 ∙ turn.invariant.4)
+    let next = last_digit turn.out c.args.at turn.i turn.rest (search rules) turn.invariant.1 in
+    (search rules, next.0, next.1 ∙ turn.invariant.2)
 
 pub returns : goal.returns
 returns c =
     let left = c.loop-i in
     let one : left.i ≡ 1 = omega arith in
-    only_digit left.out c.args.at left.rest (rw one at left.invariant.2) ∙ (rw one at left.invariant.4)
+    only_digit left.out c.args.at left.rest (rw one at left.invariant.1) ∙ (rw one at left.invariant.2)

@@ -1,7 +1,6 @@
 -- `decimal::put_digits`: with the i digits of `rest`, which are left, the text would stand.
 use Prim.Native.Nat.{◌^◌, ◌≤◌, ◌<◌}
 use mathlib.Core.Path.{◌≡◌}
-use lib.ListN.{length}
 use lib.Seq.{sets}
 use Rattle.io.specs.Digits.{last_digits}
 use Rattle.text.proofs.decimal.put_digits.Given as goal
@@ -9,10 +8,5 @@ use Rattle.text.proofs.decimal.put_digits.Given as goal
 abbrev pub invariant-loop-i : goal.invariant-loop-i
 invariant-loop-i l =
     (1 ≤ l.i)
-    × (l.i ≤ l.k)
     × (l.rest < 10 ^ l.i)
-    × (length l.out ≡ length l.initial.out)
     × (sets l.out l.at (last_digits 10 l.i l.rest) ≡ sets l.initial.out l.at (last_digits 10 l.k l.n))
-
-abbrev pub decreases-loop-i : goal.decreases-loop-i
-decreases-loop-i l = l.i

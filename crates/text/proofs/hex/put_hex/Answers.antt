@@ -1,17 +1,19 @@
 -- `hex::put_hex`: a turn stores the digits of one byte more.
-use mathlib.Core.Path.{refl}
 use borrow.Author.Rules.{rules}
-use Rattle.sets.proofs.PutLaws.{filled_none, filled_next}
-use Rattle.text.proofs.PutLaws.{puts_all}
-use Rattle.text.proofs.TextLaws.{two_a_byte}
+use lib.Seq.{take_all}
+use Rattle.text.specs.Text.{hex_text}
+use Rattle.text.proofs.PutLaws.{puts_none, puts_more}
+use Rattle.text.proofs.TextLaws.{fields_next, two_a_byte}
 use Rattle.text.proofs.hex.put_hex.Goals as goal
 
-pub loop-i-init : goal.loop-i-init
-loop-i-init c = filled_none two_a_byte _ _ (search rules) _ _
+pub loop-b-init : goal.loop-b-init
+unfolding hex_text
+loop-b-init c = (search rules, puts_none _ _)
 
-pub loop-i-preserved : goal.loop-i-preserved
-loop-i-preserved c =
-    filled_next two_a_byte (λ b. refl) 0 c.loop-i.invariant c.loop-i-test.true c.put_byte.ensures
+pub loop-b-preserved : goal.loop-b-preserved
+loop-b-preserved c =
+    let next = fields_next two_a_byte c.args.bytes.now c.loop-b.b-index 0 c.loop-b-test.true in
+    (search rules, rw next (puts_more c.loop-b.invariant.1 c.put_byte-end.ensures))
 
-pub returns : goal.returns
-returns c = record { puts = puts_all c.loop-i.invariant c.loop-i-test.false; value = refl }
+pub returns-clause-puts : goal.returns-clause-puts
+returns-clause-puts c = rw (take_all _ _ c.loop-b-test.false) at c.loop-b.invariant.1

@@ -1,17 +1,12 @@
--- `numbers::put_numbers`: after i turns the first i numbers stand. The loop starts after the first of them.
-use Prim.Native.Nat.{ℕ, ◌+◌, ◌*◌, ◌≤◌}
-use mathlib.Core.Path.{◌≡◌}
-use mathlib.Core.List.{List}
-use lib.ListN.{length, get_or, take}
-use Rattle.text.specs.Text.{decimal, numbers_text}
+-- `numbers::put_numbers`: after i turns the first number and i more stand.
+use Prim.Native.Nat.{◌+◌, ◌*◌, ◌≤◌}
+use mathlib.Core.List.{◌++◌}
+use lib.ListN.{get_or, take}
+use Rattle.text.specs.Text.{decimal, next_text}
 use Rattle.text.specs.Puts.{Puts}
 use Rattle.text.proofs.numbers.put_numbers.Given as goal
 
-abbrev pub invariant-loop-i : goal.invariant-loop-i
-invariant-loop-i l =
-    (1 ≤ l.i)
-    × (l.i ≤ 4)
-    × (l.i ≤ l.count)
-    × (l.at + 1 ≤ 21 * l.i)
-    × (length l.out ≡ length l.initial.out)
-    × ((s : List ℕ) → Puts s 0 (decimal (get_or l.numbers 0 0)) l.initial.out l.initial.at → Puts s 0 (numbers_text (take l.i l.numbers)) l.out l.at)
+abbrev pub invariant-loop-n : goal.invariant-loop-n
+invariant-loop-n l =
+    (l.end ≤ 20 + 21 * l.n-index)
+    × Puts l.fn.out 0 (decimal (get_or l.numbers 0 0) ++ next_text (take l.n-index l.rest)) l.out l.end

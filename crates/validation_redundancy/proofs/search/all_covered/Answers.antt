@@ -1,6 +1,7 @@
 -- `search::all_covered`: at each level, the values before this one leave nothing uncovered, nor does the last mask, unless it is 0.
 use mathlib.Core.Bool.{not}
 use mathlib.Core.Path.{refl, sym, ◌∙◌, ap}
+use lib.ListN.{length}
 use Rattle.register.proofs.CallLaws.{failed, passed}
 use Rattle.validation_redundancy.specs.Masks.{all_covered}
 use Rattle.validation_redundancy.proofs.CoverLaws.{minutes_monotone, level_monotone, passed_none, passed_skip, passed_known, passed_more, passed_all, passed_not, level_all, level_not, minutes_none, minutes_more, minutes_all, minutes_not, no_bit, a_bit}
@@ -15,7 +16,7 @@ item-preserved-then-not-contains c =
 
 pub item-preserved-then-known : goal.item-preserved-then-known
 item-preserved-then-known c =
-    passed_known c.item.invariant c.item-test.true (level_monotone _ _ _ _ (level_monotone _ _ _ _ (level_monotone _ _ _ _ (minutes_monotone _ _)))) c.record_column-a.ensures
+    passed_known c.item.invariant c.item-test.true (level_monotone _ _ _ _ (level_monotone _ _ _ _ (level_monotone _ _ _ _ (minutes_monotone _)))) c.record_mask-at_item.ensures
     c.known.ensures c.if-known.true
 
 pub origin-init : goal.origin-init
@@ -27,7 +28,7 @@ origin-preserved-then-origins-o-eq0 c =
 
 pub origin-preserved-then-known-2 : goal.origin-preserved-then-known-2
 origin-preserved-then-known-2 c =
-    passed_known c.origin.invariant c.origin-test.true (level_monotone _ _ _ _ (level_monotone _ _ _ _ (minutes_monotone _ _))) refl
+    passed_known c.origin.invariant c.origin-test.true (level_monotone _ _ _ _ (level_monotone _ _ _ _ (minutes_monotone _))) refl
     c.known-in-origin.ensures c.if-known-2.true
 
 pub purpose-init : goal.purpose-init
@@ -39,7 +40,7 @@ purpose-preserved-then-purposes-u-eq0 c =
 
 pub purpose-preserved-then-known-3 : goal.purpose-preserved-then-known-3
 purpose-preserved-then-known-3 c =
-    passed_known c.purpose.invariant c.purpose-test.true (level_monotone _ _ _ _ (minutes_monotone _ _)) refl
+    passed_known c.purpose.invariant c.purpose-test.true (level_monotone _ _ _ _ (minutes_monotone _)) refl
     c.known-in-purpose.ensures c.if-known-3.true
 
 pub role-init : goal.role-init
@@ -51,18 +52,22 @@ role-preserved-then-roles-r-eq0 c =
 
 pub role-preserved-then-known-4 : goal.role-preserved-then-known-4
 role-preserved-then-known-4 c =
-    passed_known c.role.invariant c.role-test.true (minutes_monotone _ _) refl
+    passed_known c.role.invariant c.role-test.true (minutes_monotone _) refl
     c.known-in-role.ensures c.if-known-4.true
 
 pub minute-init : goal.minute-init
-minute-init c = minutes_none c.role.invariant.still c.requires
+minute-init c = minutes_none c.role.invariant.still
 
 pub minute-preserved : goal.minute-preserved
-minute-preserved c = minutes_more c.minute.invariant c.minute-test.true c.if-e-minutes-eq0.false
+minute-preserved c =
+    let same = c.as_slice-minutes.ensures in
+    minutes_more c.minute.invariant (rw (ap length same) at c.minute-test.true)
+    (λ e. c.if-at_role-mask-eq0.false (rw same e))
 
 pub role-preserved : goal.role-preserved
 role-preserved c =
-    passed_more c.role.invariant c.role-test.true c.minute.invariant.still refl (minutes_all c.minute.invariant c.minute-test.false)
+    passed_more c.role.invariant c.role-test.true c.minute.invariant.still refl
+    (minutes_all c.minute.invariant (rw (ap length c.as_slice-minutes.ensures) at c.minute-test.false))
 
 pub purpose-preserved : goal.purpose-preserved
 purpose-preserved c =
@@ -74,20 +79,21 @@ origin-preserved c =
 
 pub item-preserved : goal.item-preserved
 item-preserved c =
-    passed_more c.item.invariant c.item-test.true c.origin.invariant.still c.record_column-a.ensures (level_all _ _ _ _ _ c.origin.invariant c.origin-test.false)
+    passed_more c.item.invariant c.item-test.true c.origin.invariant.still c.record_mask-at_item.ensures (level_all _ _ _ _ _ c.origin.invariant c.origin-test.false)
 
 pub returns-after-item : goal.returns-after-item
 unfolding all_covered
 returns-after-item c = c.item.invariant.still ∙ sym (passed_all c.item.invariant c.item-test.false)
 
-pub returns-then-e-minutes-eq0 : goal.returns-then-e-minutes-eq0
+pub returns-then-at_role-mask-eq0 : goal.returns-then-at_role-mask-eq0
 unfolding all_covered
-returns-then-e-minutes-eq0 c =
+returns-then-at_role-mask-eq0 c =
+    let same = c.as_slice-minutes.ensures in
     sym
     (passed_not c.item.invariant c.item-test.true
     (passed c.contains.ensures (ap not c.if-not-contains.false))
-    c.record_column-a.ensures
+    c.record_mask-at_item.ensures
     (level_not _ _ _ _ _ c.origin.invariant c.origin-test.true (a_bit _ c.if-origins-o-eq0.false)
     (level_not _ _ _ _ _ c.purpose.invariant c.purpose-test.true (a_bit _ c.if-purposes-u-eq0.false)
     (level_not _ _ _ _ _ c.role.invariant c.role-test.true (a_bit _ c.if-roles-r-eq0.false)
-    (minutes_not _ _ _ c.minute-test.true c.if-e-minutes-eq0.true)))))
+    (minutes_not _ _ (rw (ap length same) at c.minute-test.true) (rw same at c.if-at_role-mask-eq0.true))))))

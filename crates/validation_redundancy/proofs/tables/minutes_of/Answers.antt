@@ -1,28 +1,67 @@
--- `tables::minutes_of` walks over the boundary minutes: what holds of the masks so far holds at those so far that the draft spans.
-use mathlib.Core.Path.{sym, ◌∙◌}
-use Rattle.validation_redundancy.proofs.MaskLaws.{masked_none, masked_next, masked_skip, masked_all}
-use Rattle.validation_redundancy.proofs.tables.minutes_of.Goals.{then-within, else-within}
+-- `tables::minutes_of` walks over the boundary minutes: after i turns it has the masks at those of the first i + 1 that the draft spans.
+use Prim.Native.Nat.{◌+◌, ◌<◌, ◌≤◌}
+use mathlib.Core.Path.{◌≡◌, refl, sym, ap, ◌∙◌}
+use mathlib.Core.List.{List}
+use native.Mathlib.Omega.{arith}
+use lib.ListN.{length, get_or}
+use lib.Seq.{take_all}
+use Rattle.directive.specs.Matching.{in_minutes}
+use Rattle.active.specs.declared.Active.{Active}
+use Rattle.active.specs.Active.{no_active, entries_of}
+use Rattle.validation_redundancy.specs.Masks.{minute_mask, boundaries_of}
+use Rattle.validation_redundancy.proofs.MaskLaws.{walked_none, walked_next, walked_skip, boundaries_long, boundary_at}
+use Rattle.validation_redundancy.proofs.tables.minutes_of.Goals.{then-within, else-within, then-within-2, else-within-2}
 use Rattle.validation_redundancy.proofs.tables.minutes_of.Goals as goal
 
-pub loop-i-init : goal.loop-i-init
-loop-i-init c = masked_none
-
-pub loop-i-preserved : goal.loop-i-preserved
-loop-i-preserved c =
-    let now = c.loop-i in
+pub loop-a-init : goal.loop-a-init
+loop-a-init c =
+    let l = entries_of c.args.list.now in
+    let first = c.first_minute-first.result in
+    let ms = boundaries_of first l in
+    let f = minute_mask l in
+    let s = in_minutes first c.args.d.now.until in
+    let some : 0 < length ms = omega (arith, boundaries_long first l) in
     elim c.if-within.branch [
-      | then-within w ↦
-          rw (w.masks-is, w.count-is)
-          (masked_next now.invariant c.loop-i-test.true c.boundary-minute.ensures c.requires
-          (sym c.within.ensures ∙ w.if-within.true)
-          w.minute_column.ensures)
-      | else-within w ↦
-          rw (w.masks-is, w.count-is)
-          (masked_skip now.invariant c.loop-i-test.true c.boundary-minute.ensures
-          (sym c.within.ensures ∙ w.if-within.false))
+      | then-within w ↦ rw w.minutes-is (
+        omega (arith, w.push.ensures.count),
+        walked_next f s ms (walked_none f s ms) some refl (sym c.within.ensures ∙ w.if-within.true) w.minute_mask.ensures
+            w.push.ensures.masks,
+      )
+      | else-within w ↦ rw w.minutes-is (
+        omega arith,
+        walked_skip f s ms (walked_none f s ms) some refl (sym c.within.ensures ∙ w.if-within.false),
+      )
+    ]
+
+pub loop-a-preserved : goal.loop-a-preserved
+loop-a-preserved c =
+    let l = entries_of c.args.list.now in
+    let first = c.first_minute-first.result in
+    let ms = boundaries_of first l in
+    let f = minute_mask l in
+    let s = in_minutes first c.args.d.now.until in
+    let i = c.loop-a.a-index in
+    let same = c.as_slice-a-items.ensures.value in
+    let inner : i + 1 < length ms = omega (arith, boundaries_long first l, ap length same) in
+    let here : (get_or c.as_slice-a-items.result.now i no_active).directive.until ≡ get_or ms (i + 1) 0 =
+    ap (λ (es : List Active). (get_or es i no_active).directive.until) same ∙ sym (boundary_at first l i) in
+    let inv = c.loop-a.invariant in
+    elim c.if-within-2.branch [
+      | then-within-2 w ↦ rw w.minutes-is (
+        omega (arith, w.push-then-within-2.ensures.count, inv.0),
+        walked_next f s ms inv.1 inner here (sym c.within-in-loop-a.ensures ∙ w.if-within-2.true) w.minute_mask-then-within-2.ensures
+            w.push-then-within-2.ensures.masks,
+      )
+      | else-within-2 w ↦ rw w.minutes-is (
+        omega (arith, inv.0),
+        walked_skip f s ms inv.1 inner here (sym c.within-in-loop-a.ensures ∙ w.if-within-2.false),
+      )
     ]
 
 pub returns : goal.returns
 returns c =
+    let l = entries_of c.args.list.now in
+    let all_in : length (boundaries_of c.first_minute-first.result l) ≤ c.loop-a.a-index + 1 =
+    omega (arith, boundaries_long c.first_minute-first.result l, ap length c.as_slice-a-items.ensures.value) in
     rw (sym c.first_minute-first.ensures)
-    (masked_all c.loop-i.invariant c.requires c.loop-i-test.false)
+    (rw (take_all (c.loop-a.a-index + 1) (boundaries_of c.first_minute-first.result l) all_in) at c.loop-a.invariant.1)

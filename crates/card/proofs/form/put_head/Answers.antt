@@ -1,9 +1,0 @@
--- `form::put_head` writes the three numbers one after another.
-use Rattle.sets.proofs.PutLaws.{put_first, put_next}
-use Rattle.card.proofs.form.put_head.Goals as goal
-
-pub returns : goal.returns
-returns c =
-    let to_edition = put_first _ _ _ c.put1.ensures in
-    let to_patient = put_next _ _ to_edition c.put2.ensures in
-    (put_next _ _ to_patient c.put4.ensures).stored
