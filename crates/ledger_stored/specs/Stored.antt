@@ -1,5 +1,5 @@
 -- The ledger that a stored one stands for, and how a ledger is stored. No definition of document 01 rests on it.
-use Rattle.std.specs.Prelude.{ℕ, not, List, map, nat_eq}
+use Rattle.std.specs.Prelude.{ℕ, not, map, nat_eq}
 use Rattle.sets.specs.Quantifiers.{one_if}
 use Rattle.register.specs.Records.{reach_number, reach_of}
 use Rattle.directive.specs.declared.Directive.{Directive}
@@ -79,13 +79,13 @@ stored_token k =
       unused_2 = 0;
     }
 
--- the active list that stored directives and a count stand for
-abbrev pub active_list : List StoredActive → ℕ → ActiveList
-active_list a size = record { entries = map active_of a; count = size }
+-- the active list that a stored ledger stands for
+abbrev pub active_list : StoredLedger → ActiveList
+active_list t = record { entries = map active_of t.active; count = t.active_count }
 
 unfoldable pub ledger_of : StoredLedger → Ledger
 ledger_of t =
-    ledger_from t.patient t.clock t.register (active_list t.active t.active_count)
+    ledger_from t.patient t.clock t.register (active_list t)
     (record { tokens = map token_of t.tokens; count = t.token_count })
 
 unfoldable pub stored_of : Ledger → StoredLedger

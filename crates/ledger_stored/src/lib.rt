@@ -235,7 +235,7 @@ impl StoredLedger {
 
     // The lowest of them that match the request. An entry is brought back where it is looked at.
     fn lowest_match(&self, parents: &[u8], q: Request) -> Option<Best>
-        ensures { (rs : List Held) → length rs ≤ record_places → ActiveInvariant rs (active_list self.now.active self.now.active_count) → result ≡ best_of (keep (λ d. matches (holding parents.now rs) d q) (directives_of (active_list self.now.active self.now.active_count))) }
+        ensures { (rs : List Held) → length rs ≤ record_places → ActiveInvariant rs (active_list self.now) → result ≡ best_of (keep (λ d. matches (holding parents.now rs) d q) (directives_of (active_list self.now))) }
     {
         let mut best = None;
         for stored in self.entries() {

@@ -56,7 +56,7 @@ impl Minutes {
 
     // Puts one mask more last.
     fn push(&mut self, mask: u32)
-        requires { self.old.count < 33 }
+        requires { self.old.count < BOUNDARIES }
         ensures count { self.new.count ≡ self.old.count + 1 }
         ensures masks { masks_of self.new ≡ masks_of self.old ++ (mask ∷ []) }
     {

@@ -16,19 +16,19 @@ loop-stored-init c rs few held = met_none refl
 pub loop-stored-preserved : goal.loop-stored-preserved
 loop-stored-preserved c rs few held =
     let self = c.args.self.now in
-    let l = active_list self.active self.active_count in
+    let l = active_list self in
     let i = c.loop-stored.stored-index in
     let are = c.entries-stored-items.ensures in
     let is : c.from-a.result ≡ get_or (entries_of l) i no_active =
-    c.from-a.ensures ∙ entry_back self.active self.active_count are i _ (omega arith) in
-    met_next (c.loop-stored.invariant rs few held) (rw (directives_long self.active self.active_count are) (omega arith))
+    c.from-a.ensures ∙ entry_back self are i _ (omega arith) in
+    met_next (c.loop-stored.invariant rs few held) (rw (directives_long self are) (omega arith))
     (ap (λ (a : Active). a.directive) is ∙ directive_at l i)
     (c.matches.ensures rs few
-    (rw is (selected_at l i (rw (entries_long self.active self.active_count are) (omega arith)) held)))
+    (rw is (selected_at l i (rw (entries_long self are) (omega arith)) held)))
     c.lower_where-best.ensures
 
 pub returns : goal.returns
 returns c rs few held =
     let self = c.args.self.now in
     met_all (c.loop-stored.invariant rs few held)
-    (rw (directives_long self.active self.active_count c.entries-stored-items.ensures) (omega arith))
+    (rw (directives_long self c.entries-stored-items.ensures) (omega arith))

@@ -11,5 +11,5 @@ use Rattle.ledger_stored.proofs.StoredLedger.lowest_match.Given as goal
 
 abbrev pub invariant-loop-stored : goal.invariant-loop-stored
 invariant-loop-stored l =
-    (rs : List Record) → length rs ≤ 128 → ActiveInvariant rs (active_list l.self.active l.self.active_count) →
-    Met (λ d. matches (holding l.parents rs) d l.q) (directives_of (active_list l.self.active l.self.active_count)) l.best l.stored-index
+    (rs : List Record) → length rs ≤ 128 → ActiveInvariant rs (active_list l.self) →
+    Met (λ d. matches (holding l.parents rs) d l.q) (directives_of (active_list l.self)) l.best l.stored-index
