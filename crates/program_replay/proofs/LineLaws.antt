@@ -44,10 +44,10 @@ told (Err m) = refl
 
 -- the numbers of a line and the lent bytes that it shows, or all where there are fewer
 pub printed :
-    {a : EntryReply} {line : Line} {n size : ℕ} {out : List ℕ} (lent : List ℕ) → Shows line (line_of (said_of a)) (shown_of (said_of a)) →
+    (a : EntryReply) {line : Line} {n size : ℕ} {out : List ℕ} (lent : List ℕ) → Shows line (line_of (said_of a)) (shown_of (said_of a)) →
     n ≡ min line.bytes (length lent) → StartsWith out size (line_text (take line.count line.numbers) (take n lent)) →
     Prints (said_of a) lent (record { size = size; goes_on = is_ok a }) out
-printed {a} lent shows e starts =
+printed a lent shows e starts =
     record {
       line = rw (shows.numbers, e, shows.bytes, ← length-take (shown_of (said_of a)) lent, take_held (shown_of (said_of a)) lent) at starts;
       goes_on = told a;

@@ -1,6 +1,6 @@
 -- What the parts of a replay promise. Free are what stands in the buffer after the line and, after a card or a call that succeeds, what
 -- stands past a count of the ledger; which bytes standard input gives and standard output takes no contract can say.
-use Rattle.std.specs.Prelude.{ℕ, ◌-◌, ◌≤◌, ◌≡◌, ◌==◌, true, false, List, [], length, nat_lt, Option, Some, None, IfSome, Result, Ok, Err, IfOk, if◌then◌else◌}
+use Rattle.std.specs.Prelude.{ℕ, ◌-◌, ◌≤◌, ◌≡◌, ◌==◌, false, List, [], length, nat_lt, Option, Some, None, IfSome, Result, Ok, Err, IfOk, if◌then◌else◌}
 use Rattle.sets.specs.Numbers.{number_at}
 use Rattle.streams.specs.declared.Failed.{Failed}
 use Rattle.ledger.specs.declared.Ledger.{Ledger}

@@ -52,13 +52,7 @@ pub fn answer_card(card: &[u8], out: &mut [u8]) -> (Ledger, usize)
 }
 
 // One entry of a tag that can change the ledger.
-pub fn answer_call(
-    ledger: &mut Ledger,
-    tag: u8,
-    value: &[u8],
-    lent: &[u8],
-    out: &mut [u8],
-) -> Shown
+pub fn answer_call(ledger: &mut Ledger, tag: u8, value: &[u8], lent: &[u8], out: &mut [u8]) -> Shown
     requires { (is_call tag ≡ true) × Invariant ledger.old × (85 + 2 * length lent.now ≤ length out.old) }
     ensures { EntryTurn ledger.old (entry_of tag value.now) lent.now ledger.new result lent.now out.new }
 {

@@ -2,6 +2,7 @@
 ghost use Rattle.std.specs.Prelude.{◌≡◌, ◌≤◌, length};
 ghost use Rattle.program_replay.specs.Promises.{head_part, value_part, PartRead};
 
+use sets::number::BigEndian;
 use std::io::Read;
 use streams::Failed;
 
@@ -60,7 +61,7 @@ pub fn read_part<E: Eprint, R: Read>(
     if head_part(got, head.len())?.is_none() {
         return Ok(None);
     }
-    let size = usize::from(sets::number::get2(head, head.len() - 2));
+    let size = usize::from(u16::get(head, head.len() - 2));
     let more = streams::fill(rt, input, &mut value[..size]);
     value_part(more, size).map(Some)
 }
