@@ -52,7 +52,7 @@ fn decide_entry(stored: &StoredLedger, v: &[u8]) -> Result<EntryAnswer, Malforme
     Ok(EntryAnswer::Decide(stored.decide(entry::query_of(v))))
 }
 
-// A question to the ledger: two of the library's own, and those of a replay.
+// A question to the ledger. Two tags are the library's own, 0x00 for the counts and 0x01 for the token at a place; the others are a replay's.
 pub fn ask(stored: &StoredLedger, tag: u8, v: &[u8], lent: &mut [u8], answer: &mut [u64; 8]) -> u64
     ensures { AskedIn stored.now tag v.now lent.old result lent.new answer.new }
 {
