@@ -64,7 +64,7 @@ impl Reader {
         }
     }
 
-    // The value of a field that has its place: it is taken where it passes the questions after 2.
+    // The four kinds of fields: a value that has its place is taken where it passes the questions after 2.
     fn read_head(&mut self, v: &[u8]) -> Result<(), ReadRefusal>
         requires { has_place (progress self.old) head (length v.now) ≡ true }
         ensures { Takes self.old head v.now result self.new }
@@ -137,6 +137,7 @@ pub fn read(card: &[u8]) -> Result<Ledger, ReadRefusal>
         ledger: Ledger::empty(),
     };
     let mut at = 0;
+    // no `for`: each field says how long it is
     while at < card.len() {
         let left = card.len() - at;
         if left < 3 {

@@ -14,7 +14,7 @@ use ledger::Ledger;
 use register::Record;
 use sets::number::BigEndian;
 
-// What has a field whose value is always as long.
+// What has a field of its own, with a value of fixed length.
 trait Value {
     ghost TAG: { ℕ };
 
