@@ -44,7 +44,9 @@ impl Active {
     }
 }
 
-// The active directives in their order; what stands past the count has no meaning.
+// The active directives in their order; what stands past the count has no meaning. An array and a count, since a ledger is copied whole and
+// nothing is allocated; `as_slice` answers them. Not one type with the list of tokens: the check has no proof of an array whose items are a
+// type parameter's.
 #[derive(Clone, Copy)]
 pub struct ActiveList {
     pub entries: [Active; PLACES],

@@ -14,7 +14,7 @@ use ledger::Ledger;
 use register::Record;
 use sets::number::BigEndian;
 
-// What has a field of its own, with a value of fixed length.
+// What has a field of its own, with a value of fixed length. The number of a tag is its discriminant, by `as`.
 trait Value {
     ghost TAG: { ℕ };
 

@@ -9,7 +9,7 @@ pub const SIZE: usize = 25;
 // How many bytes it has in edition 1.
 pub const FIRST_EDITION_SIZE: usize = 23;
 
-// The numbers that the 25 bytes of a directive write, whatever they are.
+// The numbers that the 25 bytes of a directive write, whatever they are: effect, kind and reach are enums or flags only after question 7.
 #[derive(Clone, Copy)]
 pub struct Draft {
     pub number: u16,

@@ -21,7 +21,7 @@ pub struct Token {
     pub until: u32,
 }
 
-// The tokens in order of issue; what stands past the count has no meaning.
+// The tokens in order of issue; what stands past the count has no meaning. An array and a count, as the active list is.
 #[derive(Clone, Copy)]
 pub struct TokenList {
     pub tokens: [Token; PLACES],

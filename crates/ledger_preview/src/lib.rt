@@ -87,6 +87,7 @@ fn changed_among(before: &Ledger, after: &Ledger, w: Requester, among: RecordSet
     ensures { Invariant before.now → Invariant after.now → result ≡ record_set_of (λ x. contains among x && decision_changes (view before.now) (view after.now) w x) }
 {
     let mut found = RecordSet::empty();
+    // over the numbers of records: a set has no iterator
     for x in 0..register::RECORDS {
         let changes = among.contains(x) && changes_at(before, after, w, x);
         found = found.with_where(x, changes);

@@ -1,4 +1,5 @@
-// What is told to the caller: a status, how many values, and the values, as eight numbers in the caller's memory.
+// What is told to the caller: a status, how many values, and the values, as eight numbers in the caller's memory: C's interface. A `usize`
+// becomes a number by `as`: std has no `From` for it.
 ghost use Rattle.std.specs.Prelude.{ℕ, ◌≤◌, ◌≡◌, [], length};
 ghost use Rattle.ledger.specs.State.{view};
 ghost use Rattle.card.specs.Answer.{read_answer};

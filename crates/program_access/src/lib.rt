@@ -62,7 +62,7 @@ fn access(card: &[u8], draft: Option<&[u8]>, w: Requester, out: &mut [u8]) -> Sh
     }
 }
 
-// The requester that four numbers name.
+// The requester that four numbers name; `as`, since the bounds are proved and std's conversion would answer a `Result`.
 fn requester_of(
     person: Option<u64>,
     role: Option<u64>,

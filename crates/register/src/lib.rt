@@ -30,11 +30,12 @@ pub struct Record {
     pub sensitivities: u16,
     pub labels: u16,
     pub parent: u8,
-    // document 01: type
+    // document 01: type; a member of sets of kinds, which have no names
     pub kind: u8,
 }
 
-// The parents of the roles and the records; what stands past the two counts has no meaning. In C's layout, as Record is.
+// The parents of the roles and the records; what stands past the two counts has no meaning. In C's layout, as Record is: arrays and counts
+// in fixed memory, which `roles` and `records` answer as slices.
 #[repr(C)]
 #[derive(Clone, Copy)]
 pub struct Register {

@@ -2,7 +2,7 @@
 ghost use Rattle.std.specs.Prelude.{◌≡◌, ◌≤◌, length, take};
 
 // The first `count` of the numbers stand in the line, then the first `bytes` of the lent buffer. A line without numbers is that
-// of a malformed entry.
+// of a malformed entry. An array and a count, since nothing is allocated; `numbers` answers them.
 #[derive(Clone, Copy)]
 pub struct Line {
     numbers: [u64; 4],

@@ -9,6 +9,7 @@ pub fn retain<T: Copy, F: Fn(T) -> bool>(items: &mut [T], test: F) -> usize
     ensures kept { (p : T → Bool) → ((x : T) (b : Bool) → F.post test x b → b ≡ p x) → take result items.new ≡ keep p items.old }
 {
     let mut at = 0;
+    // by index: one slice is read at one place and written at another
     for i in 0..items.len() {
         let item = items[i];
         items[at] = item;

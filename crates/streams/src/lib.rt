@@ -79,6 +79,7 @@ pub fn fill<E: Eprint, R: Read>(rt: &E, input: &mut R, buf: &mut [u8]) -> Result
     ensures bytes { FillsFrom result (R.remaining input.old) (R.remaining input.new) buf.new }
 {
     let mut done = 0;
+    // a step is as long as what a read gave
     while done < buf.len() {
         let n = reported(rt, "standard input", input.read(&mut buf[done..]))?;
         if n == 0 {
@@ -94,6 +95,7 @@ pub fn put<E: Eprint, W: Write>(rt: &E, output: &mut W, bytes: &[u8]) -> Result<
     ensures { Puts result (W.contents output.old) (W.contents output.new) bytes.now }
 {
     let mut at = 0;
+    // a step is as long as what a write took
     while at < bytes.len() {
         let n = reported(rt, "standard output", output.write(&bytes[at..]))?;
         if n == 0 {

@@ -21,7 +21,8 @@ fn known(done: u32, mask: u32) -> bool
 }
 
 // Whether no request is left uncovered: the search is left at the first that is. At each level a mask of the directives that
-// match so far is narrowed; one that has in it all of the last mask that left nothing uncovered leaves nothing uncovered.
+// match so far is narrowed; one that has in it all of the last mask that left nothing uncovered leaves nothing uncovered. The levels are loops
+// over numbers, labelled and nested, and no iterators: the inner ones leave or go on with the outer.
 fn all_covered(a: &Active, list: &ActiveList, tables: &Tables) -> bool
     ensures { result ≡ all_covered a.now (entries_of list.now) tables.now }
 {

@@ -16,7 +16,7 @@ use validation_conflict::minutes::{first_minute, within};
 // How many boundary minutes there can be: the first, and the end of each active directive.
 const BOUNDARIES: usize = active::PLACES + 1;
 
-// The masks at the boundary minutes that a draft spans.
+// The masks at the boundary minutes that a draft spans; an array and a count, since nothing is allocated.
 #[derive(Clone, Copy)]
 pub struct Minutes {
     pub masks: [u32; BOUNDARIES],
