@@ -25,9 +25,6 @@ use Rattle.ledger.proofs.AdmitLaws.{not_accepted}
 use Rattle.ledger_preview.specs.declared.PreviewRefusal.{PreviewRefusal}
 use Rattle.ledger_preview.specs.declared.PreviewRefusal.TheVariants as Preview
 use Rattle.ledger_preview.specs.Answer.{preview_refusal, preview_answer}
-use Rattle.card.specs.declared.ReadRefusal.{ReadRefusal}
-use Rattle.card.specs.declared.ReadRefusal.TheVariants as Read
-use Rattle.card.specs.Answer.{read_refusal}
 use Rattle.card.specs.Reading.{reading}
 use Rattle.program_access.specs.declared.Shown.{Shown}
 use Rattle.program_access.specs.Table.{ledger_text, draft_accepted}
@@ -55,18 +52,10 @@ marks m after w x small same e =
     sym (e ∙ ap (λ (r : RecordSet). contains r x) same ∙ contains_words (decision_changes m after w) x small)
 
 -- a refusal accepts nothing
-pub commit_missed : (r : CommitRefusal) → accepted (commit_refusal r) ≡ false
+commit_missed : (r : CommitRefusal) → accepted (commit_refusal r) ≡ false
 commit_missed Commit.WrongLength = refl
 commit_missed (Commit.Directive r) = not_accepted r
 commit_missed Commit.Redundant = refl
-
-pub read_missed : (r : ReadRefusal) → accepted (read_refusal r) ≡ false
-read_missed Read.NotWhole = refl
-read_missed Read.Misplaced = refl
-read_missed Read.TooManyRecords = refl
-read_missed Read.OutOfRange = refl
-read_missed (Read.Directive r) = not_accepted r
-read_missed Read.Incomplete = refl
 
 preview_missed : (r : PreviewRefusal) → accepted (preview_refusal r) ≡ false
 preview_missed (Preview.Commit r) = commit_missed r

@@ -3,16 +3,17 @@ use mathlib.Core.Path.{sym, ap, ◌∙◌}
 use borrow.Author.Rules.{rules}
 use Rattle.std.proofs.Common.{Some, None}
 use Rattle.ledger_model.specs.Answer.{accepted, refusal}
+use Rattle.card_reading.proofs.ReaderLaws.{no_success}
 use Rattle.text.proofs.PutLaws.{begins}
 use Rattle.program_access.specs.Words.{card_refused_word}
-use Rattle.program_access.proofs.TableLaws.{card_read, read_missed}
+use Rattle.program_access.proofs.TableLaws.{card_read}
 use Rattle.program_access.proofs.access.Goals as goal
 
 pub returns-in-Err : goal.returns-in-Err
 unfolding card_refused_word
 returns-in-Err c =
     let answer = (rw c.in-Err.is at c.read.ensures).answer in
-    let no = ap accepted (sym answer) ∙ read_missed c.in-Err.why in
+    let no = ap accepted (sym answer) ∙ no_success c.in-Err.why in
     let missed = c.question.ensures ∙ ap refusal answer in
     record { text = rw no (rw missed at (begins c.put_numbered.ensures.puts (search rules)).1); status = rw no }
 
