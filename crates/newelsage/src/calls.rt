@@ -1,7 +1,7 @@
 // The library's calls on a stored ledger.
 ghost use Rattle.std.specs.Prelude.{ℕ, ◌≡◌, List};
 ghost use Rattle.ledger.specs.State.{empty_ledger};
-ghost use Rattle.ledger_stored.specs.Stored.{ledger_of, stored_of};
+ghost use Rattle.ledger_stored.specs.Stored.{the_stamp, ledger_of, stored_of};
 ghost use Rattle.replay_entries.specs.Entries.{decide_entry, Answers};
 ghost use Rattle.newelsage.specs.Library.{ReadIn, CalledIn, AskedIn};
 
@@ -52,21 +52,38 @@ fn decide_entry(stored: &StoredLedger, v: &[u8]) -> Result<EntryAnswer, Malforme
     Ok(EntryAnswer::Decide(stored.decide(entry::query_of(v))))
 }
 
-// A question to the ledger. Two tags are the library's own, 0x00 for the counts and 0x01 for the token at a place; the others are a replay's.
+// A question to the ledger, which is brought back whole. Two tags are the library's own, 0x00 for the counts and 0x01 for the token at
+// a place; the others are a replay's.
+fn ask_ledger(
+    stored: &StoredLedger,
+    tag: u8,
+    v: &[u8],
+    lent: &mut [u8],
+    answer: &mut [u64; 8],
+) -> u64
+    ensures { stored.now.stamp ≡ the_stamp → AskedIn stored.now tag v.now lent.old result lent.new answer.new }
+{
+    let ledger = Ledger::from(stored);
+    match (tag, v) {
+        (0x00, []) => answer::put_counts(answer, &ledger),
+        (0x01, [place]) => answer::put_token(answer, &ledger, *place),
+        (0x00 | 0x01, _) => answer::refuse(answer, MALFORMED),
+        _ => {
+            let entry = entry::run_query(&ledger, tag, v, lent);
+            answer::put_line(answer, &line::line_of(entry))
+        }
+    }
+}
+
+// A question to the ledger. A decide does not go through `ask_ledger`, which clears room for a whole ledger.
 pub fn ask(stored: &StoredLedger, tag: u8, v: &[u8], lent: &mut [u8], answer: &mut [u64; 8]) -> u64
     ensures { AskedIn stored.now tag v.now lent.old result lent.new answer.new }
 {
     if stored.stamp != ledger_stored::STAMP {
         return answer::refuse(answer, NOT_A_LEDGER);
     }
-    match (tag, v) {
-        (0x00, []) => answer::put_counts(answer, &Ledger::from(stored)),
-        (0x01, [place]) => answer::put_token(answer, &Ledger::from(stored), *place),
-        (0x00 | 0x01, _) => answer::refuse(answer, MALFORMED),
-        (0x14, _) => answer::put_line(answer, &line::line_of(decide_entry(stored, v))),
-        _ => {
-            let entry = entry::run_query(&Ledger::from(stored), tag, v, lent);
-            answer::put_line(answer, &line::line_of(entry))
-        }
+    if tag == 0x14 {
+        return answer::put_line(answer, &line::line_of(decide_entry(stored, v)));
     }
+    ask_ledger(stored, tag, v, lent, answer)
 }
