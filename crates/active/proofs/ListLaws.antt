@@ -4,8 +4,9 @@ use mathlib.Core.Path.{◌≡◌, refl, sym, ap, ap₂, ◌∙◌}
 use mathlib.Core.Bool.{Bool}
 use mathlib.Core.List.{List, [], ◌∷◌, ◌++◌, map, map-append}
 use native.Mathlib.Omega.{arith}
-use lib.ListN.{length, get_or, length-map, length-append, get_or-map}
+use lib.ListN.{length, get_or, length-map, length-append}
 use lib.Seq.{get_or-append_seam}
+use Rattle.std.specs.List.{Contains}
 use Rattle.sets.specs.Quantifiers.{some_in, keep}
 use Rattle.sets.specs.RecordSets.{contains}
 use Rattle.sets.proofs.Keep.{keep_map}
@@ -26,21 +27,21 @@ pub some_entries :
     (p : Directive → Bool) (l : ActiveList) → some_in (λ a. p a.directive) (entries_of l) ≡ some_in p (directives_of l)
 some_entries p l = sym (some_map (λ a. a.directive) p (entries_of l))
 
--- entry i of those that count
-module _ (l : ActiveList) (i : ℕ) where
-  pub directive_at : (get_or (entries_of l) i no_active).directive ≡ get_or (directives_of l) i no_directive
-  directive_at = sym (get_or-map (λ a. a.directive) (entries_of l) i no_active)
+-- the entries that count
+module _ (l : ActiveList) {rs : List Record} (held : ActiveInvariant rs l) where
+  entry_at :
+      (i : ℕ) (d : Directive) (a : Active) → i < length (entries_of l) →
+      get_or (entries_of l) i a ≡ active_in rs (get_or (directives_of l) i d)
+  entry_at i d a h =
+      ap (λ (es : List Active). get_or es i a) held.selections
+      ∙ map_at (active_in rs) (directives_of l) i d a (rw length-map h)
 
-  module _ (h : i < length (entries_of l)) {rs : List Record} (held : ActiveInvariant rs l) where
-    entry_at : get_or (entries_of l) i no_active ≡ active_in rs (get_or (directives_of l) i no_directive)
-    entry_at =
-        ap (λ (es : List Active). get_or es i no_active) held.selections
-        ∙ map_at (active_in rs) (directives_of l) i no_directive no_active (rw length-map h)
-
-    -- its set is what its directive selects
-    pub selected_at :
-        get_or (entries_of l) i no_active ≡ active_in rs (get_or (entries_of l) i no_active).directive
-    selected_at = rw directive_at entry_at
+  -- the set of each is what its directive selects
+  pub selected_in : {a : Active} → Contains (entries_of l) a → a ≡ active_in rs a.directive
+  selected_in {a} (i, h, is) =
+      let own : get_or (directives_of l) i a.directive ≡ a.directive =
+      map_at (λ b. b.directive) (entries_of l) i a a.directive h ∙ ap (λ (b : Active). b.directive) is in
+      sym is ∙ entry_at i a.directive a h ∙ ap (active_in rs) own
 
 -- the set of an entry tells of every number whether its directive selects it
 pub selects_own :
@@ -59,7 +60,7 @@ last_at l ds {rs} {d} held is =
     sym (length-map (entries_of l) (λ a. a.directive)) ∙ ap length is ∙ length-append ds (d ∷ []) in
     let at : length (entries_of l) - 1 ≡ length ds = omega arith in (
       omega arith,
-      entry_at l (length (entries_of l) - 1) (omega arith) held
+      entry_at l held (length (entries_of l) - 1) no_directive no_active (omega arith)
           ∙ ap (active_in rs) (rw (is, at) (get_or-append_seam ds d [] no_directive)),
     )
 

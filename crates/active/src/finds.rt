@@ -11,8 +11,8 @@ ghost use Rattle.directive.specs.Lowest.{best_of};
 ghost use Rattle.active.specs.Active.{directives_of, ActiveInvariant};
 
 use crate::ActiveList;
-use directive::lowest::Best;
-use directive::{Request, lowest};
+use directive::Request;
+use directive::lowest::{self, Best};
 use sets::record_set::RecordSet;
 
 impl ActiveList {
@@ -42,10 +42,9 @@ impl ActiveList {
     pub fn lowest_match(&self, parents: &[u8], q: Request) -> Option<Best>
         ensures { (rs : List Held) → length rs ≤ record_places → ActiveInvariant rs self.now → result ≡ best_of (keep (λ d. matches (holding parents.now rs) d q) (directives_of self.now)) }
     {
-        let mut best = None;
-        for a in self.as_slice() {
-            best = lowest::lower_where(best, &a.directive, a.matches(parents, q));
-        }
-        best
+        lowest::lowest_met(
+            self.as_slice(),
+            |a| a.matches(parents, q).then_some(Best::of(&a.directive)),
+        )
     }
 }

@@ -18,6 +18,7 @@ pub mod finds;
 // How many directives can be active.
 pub const PLACES: usize = 32;
 
+// The set is that of `active_in`, as the promises say: a ghost field cannot name the register that the entry belongs to.
 #[derive(Clone, Copy)]
 pub struct Active {
     pub directive: Directive,
@@ -39,14 +40,14 @@ impl Active {
     pub fn matches(&self, parents: &[u8], q: Request) -> bool
         ensures { (rs : List Held) → length rs ≤ record_places → self.now ≡ active_in rs self.now.directive → result ≡ matches (holding parents.now rs) self.now.directive q }
     {
-        let selected = self.selected.contains(usize::from(q.record));
+        let selected = self.selected.contains(usize::from(q.query.record));
         self.directive.matches(parents, q, selected)
     }
 }
 
 // The active directives in their order; what stands past the count has no meaning. An array and a count, since a ledger is copied whole and
-// nothing is allocated; `as_slice` answers them. Not one type with the list of tokens: the check has no proof of an array whose items are a
-// type parameter's.
+// nothing is allocated; `as_slice` answers them. Not one type with the list of tokens: it would be of a crate below, where neither can have
+// its own methods; and no `ArrayVec`, which is not `Copy`.
 #[derive(Clone, Copy)]
 pub struct ActiveList {
     pub entries: [Active; PLACES],

@@ -13,7 +13,8 @@ pub mod hexadecimal;
 // The most digits that a number may have, zeros in front among them.
 const MOST_DIGITS: usize = 5;
 
-// The number that the digits write.
+// The number that the digits write. By a loop: `str::parse` takes a `&str`, and would answer a `Result` that cannot fail for what is known to
+// be digits.
 fn value_of(digits: &[u8]) -> u64
     requires are_digits { list_all is_ascii_digit digits.now ≡ true }
     requires few { length digits.now ≤ most_digits }
@@ -49,10 +50,7 @@ fn read_as(got: Result<usize, FillError>, text: &[u8], most: u64) -> Option<u64>
     ensures value { MatchResult got (λ n. result ≡ number_up_to most (take n text.now)) (λ _. result ≡ None) }
     ensures bounded { Bounded most result }
 {
-    match got {
-        Ok(n) => number_up_to(&text[..n], most),
-        Err(_) => None,
-    }
+    number_up_to(&text[..got.ok()?], most)
 }
 
 // Argument i of the program, of which 0 is its name, as a number that is at most `most`. One that is missing or has more bytes
@@ -60,6 +58,7 @@ fn read_as(got: Result<usize, FillError>, text: &[u8], most: u64) -> Option<u64>
 pub fn argument<E: Env>(rt: &E, i: usize, most: u64) -> Option<u64>
     ensures { Bounded most result }
 {
+    // an argument is read into a buffer, and a number has no more digits
     let mut text = [0u8; MOST_DIGITS];
     read_as(rt.arg(i, &mut text), &text, most)
 }

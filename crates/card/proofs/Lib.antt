@@ -8,3 +8,4 @@ pub mod Written
 pub mod ReadBack
 pub mod WriteBack
 pub mod RoundTrip
+pub mod AnswerLaws

@@ -61,7 +61,7 @@ impl Head {
         }
     }
 
-    // Writes the head's seven bytes from place `at` on.
+    // Writes the head's seven bytes from place `at` on; a place for the reason in `sets::number`.
     pub fn put(self, s: &mut [u8], at: usize)
         requires { at + head_size ≤ length s.old }
         ensures { s.new ≡ sets s.old at (head_bytes self) }

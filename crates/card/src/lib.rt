@@ -11,7 +11,7 @@ use ledger::enrolment;
 
 pub mod form;
 
-#[derive(Clone, Copy)]
+#[derive(Clone, Copy, Debug, PartialEq, Eq)]
 pub enum ReadRefusal {
     // a field does not stand whole in the card
     NotWhole,
@@ -70,7 +70,7 @@ impl From<DirectiveRefusal> for ReadRefusal {
     }
 }
 
-#[derive(Clone, Copy)]
+#[derive(Clone, Copy, Debug, PartialEq, Eq)]
 pub enum WriteRefusal {
     NoRecord,
     BufferTooShort,

@@ -11,12 +11,20 @@ use ledger::Ledger;
 
 #[derive(Clone, Copy)]
 pub struct CardLine {
+    // the number that is printed, which each who prints it would make of a `ReadRefusal`
     pub refusal: u64,
     pub records: usize,
     pub directives: usize,
 }
 
 impl CardLine {
+    // The three as they are printed. `as`: std has no `From` from `usize` to `u64`.
+    pub fn numbers(self) -> [u64; 3]
+        ensures { result ≡ self.refusal ∷ self.records ∷ self.directives ∷ [] }
+    {
+        [self.refusal, self.records as u64, self.directives as u64]
+    }
+
     // The line of what reading a card gives.
     pub fn of(read: &Result<Ledger, ReadRefusal>) -> CardLine
         ensures refusal_value { result.refusal ≡ refusal (read_answer (read_result read.now).answer) }

@@ -11,7 +11,6 @@ use card::form::{Edition, Head, Tag};
 use drafts::Draft;
 use ledger::Ledger;
 use register::Record;
-use sets::number::BigEndian;
 
 // What was read so far: the edition, none before the head, and the ledger.
 #[derive(Clone, Copy)]
@@ -103,7 +102,7 @@ impl Reader {
         Ok(())
     }
 
-    // A field that stands whole: its tag and its value.
+    // A field that stands whole: its tag and its value. The tag is any byte until question 2 is put to it.
     fn read_field(&mut self, tag: u8, v: &[u8]) -> Result<(), ReadRefusal>
         ensures { Takes self.old (tag_of tag) v.now result self.new }
     {
@@ -136,21 +135,18 @@ pub fn read(card: &[u8]) -> Result<Ledger, ReadRefusal>
         edition: None,
         ledger: Ledger::empty(),
     };
-    let mut at = 0;
-    // no `for`: each field says how long it is
-    while at < card.len() {
-        let left = card.len() - at;
-        if left < 3 {
+    let mut rest = card;
+    while let [tag, high, low, after @ ..] = rest {
+        let size = usize::from(u16::from_be_bytes([*high, *low]));
+        if after.len() < size {
             return Err(ReadRefusal::NotWhole);
         }
-        let size = usize::from(u16::get(card, at + 1));
-        if left - 3 < size {
-            return Err(ReadRefusal::NotWhole);
-        }
-        let from = at + 3;
-        let end = from + size;
-        reader.read_field(card[at], &card[from..end])?;
-        at = end;
+        let (value, next) = after.split_at(size);
+        reader.read_field(*tag, value)?;
+        rest = next;
+    }
+    if !rest.is_empty() {
+        return Err(ReadRefusal::NotWhole);
     }
     if !reader.is_complete() {
         return Err(ReadRefusal::Incomplete);

@@ -1,15 +1,14 @@
 -- Laws of writing a card field by field: what is written after what stands before it.
-use Prim.Native.Nat.{ℕ, ◌+◌, ◌-◌, ◌*◌, ◌<◌, ◌≤◌}
+use Prim.Native.Nat.{ℕ, ◌+◌, ◌*◌, ◌<◌, ◌≤◌}
 use mathlib.Core.Path.{◌≡◌, ◌∙◌}
 use mathlib.Core.Bool.{true}
-use mathlib.Core.List.{List, ◌∷◌, map, append_assoc}
+use mathlib.Core.List.{List, ◌∷◌, map}
 use native.Mathlib.Nat.{zero-add}
 use native.Mathlib.Omega.{arith}
-use borrow.Rule.Slice.PartMut.{put_mid}
 use borrow.Author.Tests.{eq-eqb, ne_eqb, le-leb, lt-leb}
 use lib.Dec.{leb}
-use lib.ListN.{length, take}
-use lib.Seq.{sets, sets-eq, drop-drop}
+use lib.ListN.{length}
+use lib.Seq.{sets, sets-eq}
 use Rattle.std.specs.Prelude.{Ok, Err}
 use Rattle.sets.specs.Quantifiers.{all_in}
 use Rattle.sets.specs.Numbers.{bytes}
@@ -27,13 +26,6 @@ use Rattle.card.specs.Promises.{Fills}
 use Rattle.card.proofs.Fields.{length_field}
 use Rattle.card.proofs.FormLaws.{length_head}
 use Rattle.card.proofs.Written.{one_a_record, record_field_size, length_card}
-
--- the bytes that are copied into a part of s
-pub put_part :
-    (s v : List ℕ) (i e : ℕ) → e ≡ i + length v → e ≤ length s → put_mid i (e - i) s v ≡ sets s i v
-put_part s v i e long fits =
-    let size : e - i ≡ length v = omega arith in
-    rw (sets-eq v s i (omega arith), size, drop-drop (length v) i s, append_assoc (take i s) v _)
 
 -- a field is its tag and the length of its value, and then the value
 pub put_field :

@@ -1,4 +1,5 @@
-// Writing a card: edition 2, with patient, clock, register and active directives.
+// Writing a card: edition 2, with patient, clock, register and active directives. The buffer is the caller's, and the promise is about
+// all of it: each part is written at its place, as in `sets::number`. `as`: of an enum its discriminant, of a length one that is proved to fit.
 ghost use Rattle.std.specs.Prelude.{◌≡◌, ℕ, List, ◌∷◌, ◌+◌, ◌*◌, ◌≤◌, length};
 ghost use Rattle.std.proofs.lemmas.List.Edits.{sets};
 ghost use Rattle.sets.specs.Numbers.{bytes};
@@ -14,7 +15,7 @@ use ledger::Ledger;
 use register::Record;
 use sets::number::BigEndian;
 
-// What has a field of its own, with a value of fixed length. The number of a tag is its discriminant, by `as`.
+// What has a field of its own, with a value of fixed length.
 trait Value {
     ghost TAG: { ℕ };
 
@@ -22,6 +23,7 @@ trait Value {
 
     ghost bytes: { Self → List ℕ };
 
+    // the number that is written
     const TAG: u8;
 
     const SIZE: u16;
@@ -67,7 +69,7 @@ impl Value for Record {
 
     const TAG: u8 = Tag::Record as u8;
 
-    const SIZE: u16 = 10;
+    const SIZE: u16 = register::RECORD_SIZE as u16;
 
     ghost sized = { length_record };
 

@@ -100,7 +100,7 @@ by_permit Deny = refl
 by_permit NotApplicable = refl
 
 module _
-    (m : Model) (h : ModelInvariant m) (q : Query) (person : q.person < persons)
+    (m : Model) (h : ModelInvariant m) (q : Query) (person : q.requester.person < persons)
     (passed : passes (decide_questions m q) ≡ true)
   where
     results_say :
@@ -122,7 +122,7 @@ module _
 
 -- "outside the baseline a combined NotApplicable leads to basis 4", and another result to its effect and basis 3
 pub by_combined :
-    (l : Ledger) → Invariant l → (q : Query) (a : DecideAnswer) → q.person < persons → Decides l q a →
+    (l : Ledger) → Invariant l → (q : Query) (a : DecideAnswer) → q.requester.person < persons → Decides l q a →
     passes (decide_questions (view l) q) ≡ true → is_patient (view l) q ≡ false → is_author (view l) q ≡ false →
     (effect_and_basis a ≡ effect_values (effect_of (view l) q (deny_overrides (results (view l) q))))
     × (effect_and_basis a ≡ effect_values (effect_of (view l) q (permit_overrides (results (view l) q))))

@@ -26,28 +26,28 @@ use Rattle.demands.specs.Folder.{with_reach, OneForTwo}
 -- whether the directive matches the request, with `within` for whether the record is within its reach
 abbrev matches_where : Contents → Directive → Request → Bool → Bool
 matches_where c d q within =
-    subject_covers c.roles d.subject q.person q.role
-    && (bit q.origin d.subject_origins
-    && bit q.purpose d.purposes
-    && (has_record c.records q.«record» && within && passes_filters (record_at c.records q.«record») d)
+    subject_covers c.roles d.subject q.query.requester.person q.query.requester.role
+    && (bit q.query.requester.origin d.subject_origins
+    && bit q.query.requester.purpose d.purposes
+    && (has_record c.records q.query.«record» && within && passes_filters (record_at c.records q.query.«record») d)
     && in_minutes d.from d.until q.minute)
 
 module _ (c : Contents) (d : Directive) (q : Request) where
-  matches_where_lem : matches c d q ≡ matches_where c d q (reaches c.records d.reach d.«record» q.«record»)
+  matches_where_lem : matches c d q ≡ matches_where c d q (reaches c.records d.reach d.«record» q.query.«record»)
   unfolding matches applies_to selects
   matches_where_lem = refl
 
   matches_with :
-      (n : ℕ) (k : Reach) → matches c (with_reach n k d) q ≡ matches_where c d q (reaches c.records k d.«record» q.«record»)
+      (n : ℕ) (k : Reach) → matches c (with_reach n k d) q ≡ matches_where c d q (reaches c.records k d.«record» q.query.«record»)
   unfolding matches applies_to selects passes_filters
   matches_with n k = refl
 
   outside : matches_where c d q false ≡ false
   outside =
       rw (
-        and-false (has_record c.records q.«record»),
-        and-false (bit q.origin d.subject_origins && bit q.purpose d.purposes),
-        and-false (subject_covers c.roles d.subject q.person q.role),
+        and-false (has_record c.records q.query.«record»),
+        and-false (bit q.query.requester.origin d.subject_origins && bit q.query.requester.purpose d.purposes),
+        and-false (subject_covers c.roles d.subject q.query.requester.person q.query.requester.role),
       )
 
   both_parts : (a b : Bool) → matches_where c d q (a || b) ≡ matches_where c d q a || matches_where c d q b
@@ -58,11 +58,11 @@ module _ (c : Contents) (d : Directive) (q : Request) where
   -- the one matches what either of the two matches
   pub two_parts : (e f : Directive) → OneForTwo d e f → matches c d q ≡ matches c e q || matches c f q
   two_parts e f parts =
-      let within : Reach → Bool = λ k. matches_where c d q (reaches c.records k d.«record» q.«record») in
+      let within : Reach → Bool = λ k. matches_where c d q (reaches c.records k d.«record» q.query.«record») in
       matches_where_lem
       ∙ ap within parts.one
-      ∙ ap (matches_where c d q) (folder c.records d.«record» q.«record»)
-      ∙ both_parts (reaches c.records Itself d.«record» q.«record») (reaches c.records Descendants d.«record» q.«record»)
+      ∙ ap (matches_where c d q) (folder c.records d.«record» q.query.«record»)
+      ∙ both_parts (reaches c.records Itself d.«record» q.query.«record») (reaches c.records Descendants d.«record» q.query.«record»)
       ∙ sym (ap₂ ◌||◌
       (ap (λ x. matches c x q) parts.first ∙ matches_with e.number Itself)
       (ap (λ x. matches c x q) parts.second ∙ matches_with f.number Descendants))
@@ -71,15 +71,15 @@ module _ (c : Contents) (d : Directive) (q : Request) where
   pub part_matches :
       (n : ℕ) (k : Reach) → d.reach ≡ Folder → matches c (with_reach n k d) q ≡ true → matches c d q ≡ true
   part_matches n k one e =
-      let within : Reach → Bool = λ j. matches_where c d q (reaches c.records j d.«record» q.«record») in
+      let within : Reach → Bool = λ j. matches_where c d q (reaches c.records j d.«record» q.query.«record») in
       ⊎_elim
-      (λ (t : reaches c.records k d.«record» q.«record» ≡ true).
+      (λ (t : reaches c.records k d.«record» q.query.«record» ≡ true).
       matches_where_lem ∙ ap within one
-      ∙ ap (matches_where c d q) (within_folder c.records d.«record» k q.«record» t ∙ sym t)
+      ∙ ap (matches_where c d q) (within_folder c.records d.«record» k q.query.«record» t ∙ sym t)
       ∙ sym (matches_with n k) ∙ e)
-      (λ (t : reaches c.records k d.«record» q.«record» ≡ false).
+      (λ (t : reaches c.records k d.«record» q.query.«record» ≡ false).
       both_ways e (matches_with n k ∙ ap (matches_where c d q) t ∙ outside))
-      (either_way (reaches c.records k d.«record» q.«record»))
+      (either_way (reaches c.records k d.«record» q.query.«record»))
 
 -- the one by the two
 module _ (d : Directive) (n k : ℕ) (one : d.reach ≡ Folder) where

@@ -55,7 +55,7 @@ pub order_kept :
     (l₁ m₁ l₂ m₂ : Ledger) (rs₁ xs₁ rs₂ xs₂ : List Answer) →
     Run l (map commit ss) rs₁ l₁ → Run l₁ (map advance minutes) xs₁ m₁ →
     Run l (map commit ts) rs₂ l₂ → Run l₂ (map advance minutes) xs₂ m₂ →
-    (q : Query) (a b : DecideAnswer) → q.person < persons → Decides m₁ q a → Decides m₂ q b →
+    (q : Query) (a b : DecideAnswer) → q.requester.person < persons → Decides m₁ q a → Decides m₂ q b →
     effect_and_basis a ≡ effect_and_basis b
 order_kept l h ss ts minutes beside other l₁ m₁ l₂ m₂ rs₁ xs₁ rs₂ xs₂ one then two later q a b person by_a by_b =
     told_after h one then q a by_a

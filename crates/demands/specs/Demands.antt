@@ -124,16 +124,16 @@ pub record Demand2 : Type 0 where
       (write_answer a ≡ writing (view l) before) × (after ≡ buffered (view l) before)
   -- "What the directives say is what XACML 3.0's as_deny_overrides says over the active ones,
   pub as_deny_overrides :
-      (l : Ledger) (q : Query) → Reachable l → q.person < persons → passes (decide_questions (view l) q) ≡ true →
+      (l : Ledger) (q : Query) → Reachable l → q.requester.person < persons → passes (decide_questions (view l) q) ≡ true →
       directives_say (matching (view l) q) ≡ deny_overrides (results (view l) q)
   -- and equally its as_permit_overrides";
   pub as_permit_overrides :
-      (l : Ledger) (q : Query) → Reachable l → q.person < persons → passes (decide_questions (view l) q) ≡ true →
+      (l : Ledger) (q : Query) → Reachable l → q.requester.person < persons → passes (decide_questions (view l) q) ≡ true →
       directives_say (matching (view l) q) ≡ permit_overrides (results (view l) q)
   -- "outside the baseline a combined NotApplicable leads to basis 4", and another result to its effect and basis 3, whichever
   -- of the two combines.
   pub combined :
-      (l : Ledger) (q : Query) (a : DecideAnswer) → Reachable l → q.person < persons → Decides l q a →
+      (l : Ledger) (q : Query) (a : DecideAnswer) → Reachable l → q.requester.person < persons → Decides l q a →
       passes (decide_questions (view l) q) ≡ true → is_patient (view l) q ≡ false → is_author (view l) q ≡ false →
       (effect_and_basis a ≡ effect_values (effect_of (view l) q (deny_overrides (results (view l) q))))
       × (effect_and_basis a ≡ effect_values (effect_of (view l) q (permit_overrides (results (view l) q))))
@@ -215,7 +215,7 @@ pub record Kept (card : List ℕ) (cs : List Call) (rs : List Answer) (l : Ledge
       (l₁ m₁ l₂ m₂ : Ledger) (rs₁ xs₁ rs₂ xs₂ : List Answer) →
       Run l (map commit ss) rs₁ l₁ → Run l₁ (map advance minutes) xs₁ m₁ →
       Run l (map commit ts) rs₂ l₂ → Run l₂ (map advance minutes) xs₂ m₂ →
-      (q : Query) (a b : DecideAnswer) → q.person < persons → Decides m₁ q a → Decides m₂ q b →
+      (q : Query) (a b : DecideAnswer) → q.requester.person < persons → Decides m₁ q a → Decides m₂ q b →
       effect_and_basis a ≡ effect_and_basis b
 
 -- DEMAND 3. "Take the ledger read from any card that document 01's questions accept, and any list of commit, revoke, advance

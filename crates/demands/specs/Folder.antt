@@ -97,7 +97,7 @@ pub record Folder (l : Ledger) : Type 0 where
       (minutes : List ℕ) (l₁ m₁ l₂ m₂ : Ledger) (rs₁ xs₁ rs₂ xs₂ : List Answer) →
       Run l (commit s ∷ []) rs₁ l₁ → Run l₁ (map advance minutes) xs₁ m₁ →
       Run l (commit t ∷ commit u ∷ []) rs₂ l₂ → Run l₂ (map advance minutes) xs₂ m₂ →
-      (q : Query) (a b : DecideAnswer) → q.person < persons → Decides m₁ q a → Decides m₂ q b →
+      (q : Query) (a b : DecideAnswer) → q.requester.person < persons → Decides m₁ q a → Decides m₂ q b →
       effect_and_basis a ≡ effect_and_basis b
   -- Where the two are active, a draft of the one that passes questions 6 to 12 is refused 14.
   pub one_redundant :

@@ -9,7 +9,8 @@ use Rattle.register.specs.Records.{has_record}
 use Rattle.directive.specs.declared.Requester.{Requester}
 use Rattle.directive.specs.Matching.{query_on}
 use Rattle.ledger_model.specs.Answer.{done, refused, accepted}
-use Rattle.ledger_model.specs.Preview.{is_change, requester_passes}
+use Rattle.ledger_model.specs.Questions.{requester_in_range}
+use Rattle.ledger_model.specs.Preview.{is_change}
 use Rattle.ledger.specs.declared.Ledger.{Ledger}
 use Rattle.ledger.specs.State.{view}
 use Rattle.ledger.specs.Answer.{DecideAnswer, commit_answer, decide_answer}
@@ -35,7 +36,7 @@ pub record Foreseen (l : Ledger) (s : List ℕ) (w : Requester) (r : CommitResul
   -- "the records whose decision at the clock would change, as two 64-bit words and a count, laid out like a brief": for any answers
   -- that decide may give on every record before the commit, a, and after it, b
   pub shown :
-      accepted (commit_answer r.answer) ≡ true → requester_passes (view l).register w ≡ true →
+      accepted (commit_answer r.answer) ≡ true → requester_in_range (view l).register w ≡ true →
       (a b : ℕ → DecideAnswer) → DecidesAll l w a → DecidesAll r.ledger w b →
       preview_answer p.answer
       ≡ done (word_of (answers_change l a b) 0 ∷ word_of (answers_change l a b) 1 ∷ count_below (length (records_of l)) (answers_change l a b) ∷ [])
@@ -43,7 +44,7 @@ pub record Foreseen (l : Ledger) (s : List ℕ) (w : Requester) (r : CommitResul
   pub draft_refused : accepted (commit_answer r.answer) ≡ false → preview_answer p.answer ≡ commit_answer r.answer
   -- "otherwise the requester is put to question 17, its record part left out."
   pub requester_refused :
-      accepted (commit_answer r.answer) ≡ true → requester_passes (view l).register w ≡ false →
+      accepted (commit_answer r.answer) ≡ true → requester_in_range (view l).register w ≡ false →
       preview_answer p.answer ≡ refused 17 []
   -- "The ledger handed in comes back equal."
   pub handed_back : p.ledger ≡ l

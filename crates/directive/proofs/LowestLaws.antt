@@ -10,10 +10,7 @@ use Rattle.sets.specs.Quantifiers.{pick, some_in, keep}
 use Rattle.sets.proofs.Quantifiers.{either_way}
 use Rattle.directive.specs.declared.Directive.{Directive}
 use Rattle.directive.specs.declared.lowest.Best.{Best}
-use Rattle.directive.specs.Lowest.{lowest, lowest_number, best_of}
-
-abbrev best_in : Directive → Best
-best_in d = record { permit = d.permit; number = d.number }
+use Rattle.directive.specs.Lowest.{lowest, lowest_number, best_in, best_of}
 
 pub lowest_snoc :
     (x : Directive) (xs : List Directive) (d : Directive) →
@@ -35,16 +32,18 @@ best_snoc x xs d =
     (either_way (ltb d.number (lowest x xs).number)))
 
 -- the first one is taken, and so is one of lower number; another changes nothing
-pub best_first : (ds : List Directive) (d : Directive) → best_of ds ≡ None → best_of (ds ++ (d ∷ [])) ≡ Some (best_in d)
+pub best_first :
+    (ds : List Directive) (d : Directive) (n : Best) → best_of ds ≡ None → n ≡ best_in d →
+    best_of (ds ++ (d ∷ [])) ≡ Some n
 unfolding lowest
-best_first [] d e = refl
-best_first (x ∷ xs) d e = cc
+best_first [] d n e is = rw is
+best_first (x ∷ xs) d n e is = cc
 
 pub best_next :
-    (ds : List Directive) (d : Directive) (b : Best) → best_of ds ≡ Some b →
-    best_of (ds ++ (d ∷ [])) ≡ Some (pick (ltb d.number b.number) (best_in d) b)
-best_next [] d b e = cc
-best_next (x ∷ xs) d b e = let g : best_in (lowest x xs) ≡ b = cc in rw (sym g) (best_snoc x xs d)
+    (ds : List Directive) (d : Directive) (n b : Best) → best_of ds ≡ Some b → n ≡ best_in d →
+    best_of (ds ++ (d ∷ [])) ≡ Some (pick (ltb n.number b.number) n b)
+best_next [] d n b e is = cc
+best_next (x ∷ xs) d n b e is = let g : best_in (lowest x xs) ≡ b = cc in rw (is, sym g) (best_snoc x xs d)
 
 -- a test keeps a directive where some directive passes it
 pub best_found : (p : Directive → Bool) (ds : List Directive) → is_some (best_of (keep p ds)) ≡ some_in p ds

@@ -51,10 +51,10 @@ module _ (c : Contents) (d : Directive) (x o u m : ℕ) where
       rw (a.origin, a.purpose, a.selected) (in_minutes_make d.from d.until m a.begun a.not_over)
 
 pub record Matches (c : Contents) (d : Directive) (q : Request) : Type 0 where
-  pub subject : subject_covers c.roles d.subject q.person q.role ≡ true
-  pub origin : bit q.origin d.subject_origins ≡ true
-  pub purpose : bit q.purpose d.purposes ≡ true
-  pub selected : selects c.records d q.«record» ≡ true
+  pub subject : subject_covers c.roles d.subject q.query.requester.person q.query.requester.role ≡ true
+  pub origin : bit q.query.requester.origin d.subject_origins ≡ true
+  pub purpose : bit q.query.requester.purpose d.purposes ≡ true
+  pub selected : selects c.records d q.query.«record» ≡ true
   pub begun : d.from ≤ q.minute
   pub not_over : q.minute < d.until
 
@@ -62,8 +62,8 @@ module _ (c : Contents) (d : Directive) (q : Request) where
   pub matches_read : matches c d q ≡ true → Matches c d q
   unfolding matches
   matches_read e =
-      let (subject, rest) = and_both (subject_covers c.roles d.subject q.person q.role) _ e in
-      let a = applies_read c d q.«record» q.origin q.purpose q.minute rest in
+      let (subject, rest) = and_both (subject_covers c.roles d.subject q.query.requester.person q.query.requester.role) _ e in
+      let a = applies_read c d q.query.«record» q.query.requester.origin q.query.requester.purpose q.minute rest in
       record {
         subject = subject;
         origin = a.origin;
@@ -77,7 +77,7 @@ module _ (c : Contents) (d : Directive) (q : Request) where
   unfolding matches
   matches_make h =
       rw h.subject
-      (applies_make c d q.«record» q.origin q.purpose q.minute
+      (applies_make c d q.query.«record» q.query.requester.origin q.query.requester.purpose q.minute
       (record {
         origin = h.origin;
         purpose = h.purpose;
@@ -87,8 +87,8 @@ module _ (c : Contents) (d : Directive) (q : Request) where
       }))
 
   -- a directive that names a person matches that person's requests alone
-  pub matches_named : (n : ℕ) → d.subject ≡ Person n → matches c d q ≡ true → q.person ≡ n
-  matches_named n e t = sym (eqb-true n q.person (rw e at (matches_read t).subject))
+  pub matches_named : (n : ℕ) → d.subject ≡ Person n → matches c d q ≡ true → q.query.requester.person ≡ n
+  matches_named n e t = sym (eqb-true n q.query.requester.person (rw e at (matches_read t).subject))
 
   -- minutes that meet at `until` are not shared
   pub not_at_until : q.minute ≡ d.until → matches c d q ≡ false

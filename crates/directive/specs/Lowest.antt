@@ -14,6 +14,10 @@ abbrev pub lowest_number : List Directive → List ℕ
 lowest_number [] = []
 lowest_number (d ∷ ds) = (lowest d ds).number ∷ []
 
+-- the effect and the number of a directive
+abbrev pub best_in : Directive → Best
+best_in d = record { permit = d.permit; number = d.number }
+
 -- the effect and the number of the lowest directive of a list, if it has one
 abbrev pub best_of : List Directive → Option Best
 best_of [] = None

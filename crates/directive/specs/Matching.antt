@@ -47,28 +47,13 @@ applies_to c d x o u m =
 -- from <= minute < until."
 unfoldable pub matches : Contents → Directive → Request → Bool
 matches c d q =
-    subject_covers c.roles d.subject q.person q.role
-    && applies_to c d q.«record» q.origin q.purpose q.minute
+    subject_covers c.roles d.subject q.query.requester.person q.query.requester.role
+    && applies_to c d q.query.«record» q.query.requester.origin q.query.requester.purpose q.minute
 
 -- the request that a query is at a minute
 abbrev pub request_at : Query → ℕ → Request
-request_at q m =
-    record {
-      person = q.person;
-      role = q.role;
-      origin = q.origin;
-      «record» = q.«record»;
-      purpose = q.purpose;
-      minute = m;
-    }
+request_at q m = record { query = q; minute = m }
 
 -- the query of a requester (document 02, #101: person, role, origin, purpose) for record x
 abbrev pub query_on : Requester → ℕ → Query
-query_on w x =
-    record {
-      person = w.person;
-      role = w.role;
-      origin = w.origin;
-      «record» = x;
-      purpose = w.purpose;
-    }
+query_on w x = record { requester = w; «record» = x }

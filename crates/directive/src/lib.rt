@@ -18,7 +18,7 @@ pub enum Subject {
 }
 
 impl Subject {
-    // The role or the person of that number.
+    // The role or the person of that number: a kind and a number, as drafts and stored ledgers give them.
     pub fn named(is_role: bool, number: u16) -> Subject
         ensures { result ≡ subject_named is_role number }
     {
@@ -63,27 +63,7 @@ pub struct Directive {
     pub until: u32,
 }
 
-#[derive(Clone, Copy)]
-pub struct Request {
-    pub person: u16,
-    pub role: u16,
-    pub origin: u8,
-    pub record: u8,
-    pub purpose: u8,
-    pub minute: u32,
-}
-
-// A request without its minute.
-#[derive(Clone, Copy)]
-pub struct Query {
-    pub person: u16,
-    pub role: u16,
-    pub origin: u8,
-    pub record: u8,
-    pub purpose: u8,
-}
-
-// Who asks, from where and what for: a query without its record.
+// Who asks, in which role, from where and what for.
 #[derive(Clone, Copy)]
 pub struct Requester {
     pub person: u16,
@@ -92,22 +72,32 @@ pub struct Requester {
     pub purpose: u8,
 }
 
+// A requester and the record asked for: a request without its minute.
+#[derive(Clone, Copy)]
+pub struct Query {
+    pub requester: Requester,
+    pub record: u8,
+}
+
+#[derive(Clone, Copy)]
+pub struct Request {
+    pub query: Query,
+    pub minute: u32,
+}
+
 impl Requester {
     // The requester's query for record x.
     pub fn query_on(self, x: u8) -> Query
         ensures { result ≡ query_on self x }
     {
         Query {
-            person: self.person,
-            role: self.role,
-            origin: self.origin,
+            requester: self,
             record: x,
-            purpose: self.purpose,
         }
     }
 }
 
-// What fills a place that holds no directive.
+// What fills a place that holds no directive; by hand, since a derive takes no variant with a value as the default.
 impl Default for Directive {
     ghost use Rattle.directive.specs.Nothing.{no_directive};
 

@@ -25,14 +25,15 @@ impl Directive {
     // Whether it matches the request; `selected` tells whether it selects the record asked for.
     #[tactic(auto, unfolding(crate::specs::Matching::matches, crate::specs::Matching::applies_to))]
     pub fn matches(&self, parents: &[u8], q: Request, selected: bool) -> bool
-        ensures { (rs : List Held) → selected ≡ selects rs self.now q.«record» → result ≡ matches (holding parents.now rs) self.now q }
+        ensures { (rs : List Held) → selected ≡ selects rs self.now q.query.«record» → result ≡ matches (holding parents.now rs) self.now q }
     {
+        let w = q.query.requester;
         selected
             && self.from <= q.minute
             && q.minute < self.until
-            && bits::has(self.subject_origins, q.origin)
-            && bits::has(self.purposes, q.purpose)
-            && self.subject.covers(parents, q.person, q.role)
+            && bits::has(self.subject_origins, w.origin)
+            && bits::has(self.purposes, w.purpose)
+            && self.subject.covers(parents, w.person, w.role)
     }
 }
 
@@ -42,11 +43,7 @@ impl Query {
         ensures { result ≡ request_at self minute }
     {
         Request {
-            person: self.person,
-            role: self.role,
-            origin: self.origin,
-            record: self.record,
-            purpose: self.purpose,
+            query: self,
             minute,
         }
     }

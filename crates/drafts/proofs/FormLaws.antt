@@ -21,7 +21,7 @@ use Rattle.sets.proofs.Lists.{all_append}
 use Rattle.sets.proofs.BitLaws.{subset_and}
 use Rattle.sets.proofs.Numbers.{length_bytes, bytes_are_bytes, number_of_bytes, number_at_bound, bytes_next}
 use Rattle.register.specs.declared.records.Reach.{Reach}
-use Rattle.register.specs.declared.records.Reach.TheVariants.{Itself, Children, Descendants, Folder}
+use Rattle.register.specs.declared.records.Reach.TheVariants.{Itself, Children, Descendants, Folder, Nothing}
 use Rattle.register.specs.Records.{last_reach, reach_of, reach_number}
 use Rattle.directive.specs.declared.Subject.{Subject}
 use Rattle.directive.specs.declared.Subject.TheVariants.{Person, Role}
@@ -80,6 +80,7 @@ reach_read Itself = refl
 reach_read Children = refl
 reach_read Descendants = refl
 reach_read Folder = refl
+reach_read Nothing = refl
 
 reach_written : (v : ℕ) → v ≤ last_reach → reach_number (reach_of v) ≡ v
 reach_written zero h = refl
@@ -87,12 +88,6 @@ reach_written (suc zero) h = refl
 reach_written (suc (suc zero)) h = refl
 reach_written (suc (suc (suc zero))) h = refl
 reach_written (suc (suc (suc (suc v)))) h = absurd (omega arith)
-
-reach_small : (r : Reach) → reach_number r ≤ last_reach
-reach_small Itself = omega arith
-reach_small Children = omega arith
-reach_small Descendants = omega arith
-reach_small Folder = omega arith
 
 -- a set of n bits that is not empty
 pub record Filled (n a : ℕ) : Type 0 where
@@ -109,6 +104,7 @@ pub record Formed (d : Directive) : Type 0 where
   pub subject : number_of d.subject < 2 ^ 16
   pub subject_origins : Filled 16 d.subject_origins
   pub root : d.«record» < 2 ^ 8
+  pub reach : reach_number d.reach ≤ last_reach
   pub origins : Filled 16 d.origins
   pub sensitivities : Filled 16 d.sensitivities
   pub kinds : Filled 8 d.kinds
@@ -124,7 +120,8 @@ formed d e =
     let (to_kinds, purposes) = and_both _ (non_empty_set 11 d.purposes) to_purposes in
     let (to_sensitivities, kinds) = and_both _ (non_empty_set 8 d.kinds) to_kinds in
     let (to_origins, sensitivities) = and_both _ (non_empty_set 16 d.sensitivities) to_sensitivities in
-    let (to_root, origins) = and_both _ (non_empty_set 16 d.origins) to_origins in
+    let (to_reach, origins) = and_both _ (non_empty_set 16 d.origins) to_origins in
+    let (to_root, reach) = and_both _ (leb (reach_number d.reach) last_reach) to_reach in
     let (to_subject_origins, root) = and_both _ (in_bits 8 d.«record») to_root in
     let (to_subject, subject_origins) = and_both _ (non_empty_set 16 d.subject_origins) to_subject_origins in
     let (number, subject) = and_both _ (in_bits 16 (number_of d.subject)) to_subject in
@@ -133,6 +130,7 @@ formed d e =
       subject = ltb-true _ _ subject;
       subject_origins = filled _ _ subject_origins;
       root = ltb-true _ _ root;
+      reach = leb-true _ _ reach;
       origins = filled _ _ origins;
       sensitivities = filled _ _ sensitivities;
       kinds = filled _ _ kinds;
@@ -172,7 +170,7 @@ module _ (d : Directive) (e : well_formed d ≡ true) where
         number_of_bytes 2 (number_of d.subject) f.subject,
         number_of_bytes 2 d.subject_origins f.subject_origins.small,
         number_of_bytes 1 d.«record» f.root,
-        number_of_bytes 1 (reach_number d.reach) (omega (arith, reach_small d.reach)),
+        number_of_bytes 1 (reach_number d.reach) (omega (arith, f.reach)),
         number_of_bytes 2 d.origins f.origins.small,
         number_of_bytes 2 d.sensitivities f.sensitivities.small,
         number_of_bytes 1 d.kinds f.kinds.small,
@@ -195,7 +193,7 @@ module _ (d : Directive) (e : well_formed d ≡ true) where
       ∙ rw (
         le-leb _ _ (bit_small d.permit),
         le-leb _ _ (bit_small (is_role d.subject)),
-        le-leb _ _ (reach_small d.reach),
+        le-leb _ _ f.reach,
         f.subject_origins.non_empty_lem,
         f.origins.non_empty_lem,
         f.sensitivities.non_empty_lem,
@@ -294,6 +292,8 @@ draft_formed d w r =
       k.subject_origins,
       lt-ltb _ _ w.subject_origins,
       lt-ltb _ _ w.root,
+      reach_written d.reach k.reach,
+      le-leb _ _ k.reach,
       k.origins,
       lt-ltb _ _ w.origins,
       k.sensitivities,

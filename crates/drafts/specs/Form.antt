@@ -108,6 +108,7 @@ well_formed d =
     && in_bits 16 (number_of d.subject)
     && non_empty_set 16 d.subject_origins
     && in_bits 8 d.«record»
+    && nat_le (reach_number d.reach) last_reach
     && non_empty_set 16 d.origins
     && non_empty_set 16 d.sensitivities
     && non_empty_set 8 d.kinds

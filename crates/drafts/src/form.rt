@@ -1,7 +1,7 @@
 // The bytes of a directive: ranges, decoding and encoding.
 ghost use Rattle.std.specs.Prelude.{◌≡◌, ◌+◌, ◌≤◌, length};
 ghost use Rattle.std.proofs.lemmas.List.Edits.{sets};
-ghost use Rattle.drafts.specs.Form.{draft_size, first_edition_size, numbers_of, draft_of, with_purposes, keeps_ranges, directive_bytes};
+ghost use Rattle.drafts.specs.Form.{draft_size, first_edition_size, numbers_of, draft_of, with_purposes, keeps_ranges, directive_of, directive_bytes};
 
 use crate::{Draft, OutOfRange};
 use directive::{Directive, Subject};
@@ -67,6 +67,27 @@ impl Draft {
             && 0 < self.purposes
             && bits::within(self.purposes, EVERY_PURPOSE)
     }
+
+    // The directive that its numbers mean where they keep the ranges; `try_from` asks that first.
+    #[tactic(auto, unfolding(crate::specs::Form::directive_of))]
+    pub fn directive(self) -> Directive
+        ensures { result ≡ directive_of self }
+    {
+        Directive {
+            number: self.number,
+            permit: self.effect == 1,
+            subject: Subject::named(self.subject_kind == 1, self.subject),
+            subject_origins: self.subject_origins,
+            record: self.record,
+            reach: Reach::from(self.reach),
+            origins: self.origins,
+            sensitivities: self.sensitivities,
+            kinds: self.kinds,
+            purposes: self.purposes,
+            from: self.from,
+            until: self.until,
+        }
+    }
 }
 
 // The directive that a draft within the ranges means; a draft out of them means none.
@@ -77,29 +98,15 @@ impl TryFrom<Draft> for Directive {
 
     ghost try_from_gives = { λ d r. r ≡ meaning_of d };
 
-    #[tactic(auto, unfolding(crate::specs::Form::directive_of))]
     fn try_from(d: Draft) -> Result<Directive, OutOfRange> {
         if !d.keeps_ranges() {
             return Err(OutOfRange);
         }
-        Ok(Directive {
-            number: d.number,
-            permit: d.effect == 1,
-            subject: Subject::named(d.subject_kind == 1, d.subject),
-            subject_origins: d.subject_origins,
-            record: d.record,
-            reach: Reach::from_number(d.reach),
-            origins: d.origins,
-            sensitivities: d.sensitivities,
-            kinds: d.kinds,
-            purposes: d.purposes,
-            from: d.from,
-            until: d.until,
-        })
+        Ok(d.directive())
     }
 }
 
-// Writes the directive's 25 bytes from place `at` on.
+// Writes the directive's 25 bytes from place `at` on; a place for the reason in `sets::number`.
 pub fn put_directive(s: &mut [u8], at: usize, d: &Directive)
     requires { at + draft_size ≤ length s.old }
     ensures { s.new ≡ sets s.old at (directive_bytes d.now) }
@@ -110,7 +117,7 @@ pub fn put_directive(s: &mut [u8], at: usize, d: &Directive)
     d.subject.number().put(s, at + 4);
     d.subject_origins.put(s, at + 6);
     d.record.put(s, at + 8);
-    d.reach.number().put(s, at + 9);
+    u8::from(d.reach).put(s, at + 9);
     d.origins.put(s, at + 10);
     d.sensitivities.put(s, at + 12);
     d.kinds.put(s, at + 14);

@@ -1,7 +1,8 @@
--- Laws of the disclosed records: a brief's two words are those of the first 64 records and of the rest, and it counts the records that
+-- Laws of the disclosed records: they are those of the places that hold a record, a brief's two words are those of the first 64 records and of the rest, and it counts the records that
 -- are disclosed.
 use Prim.Native.Nat.{ℕ, ◌-◌, ◌^◌, ◌<◌, ◌≤◌, min}
-use mathlib.Core.Path.{◌≡◌, ap, ◌∙◌}
+use mathlib.Core.Path.{◌≡◌, sym, ap, ◌∙◌}
+use mathlib.Core.Bool.{◌&&◌}
 use mathlib.Core.List.{List}
 use native.Mathlib.Nat.{lt_of_lt_of_le}
 use native.Mathlib.Decide.{dec_lt}
@@ -9,6 +10,7 @@ use native.Mathlib.Omega.{arith}
 use borrow.Author.Tests.{lt-ltb, le-ltb}
 use lib.ListN.{length, take, drop, length-take, length-drop}
 use lib.Seq.{get_or-take}
+use lib.Dec.{ltb}
 use lib.Pow.{pow_mono}
 use Rattle.std.proofs.lemmas.List.{get_or-drop}
 use Rattle.sets.specs.Quantifiers.{count_below}
@@ -21,6 +23,17 @@ use Rattle.register.specs.declared.Record.{Record}
 use Rattle.register.specs.Register.{no_record}
 use Rattle.register.specs.Records.{record_at}
 use Rattle.emergency.specs.Emergency.{scope, disclosed}
+
+-- the first n of these places hold the records
+pub disclosed_of :
+    (places : List Record) (n states x : ℕ) → x < length places →
+    ltb x n && shares 16 (record_at places x).labels (scope states) ≡ disclosed (take n places) states x
+unfolding disclosed
+disclosed_of places n states x h =
+    elim (dec_lt x n) [
+      | yes l ↦ rw (lt-ltb x n l, get_or-take n places x no_record l, length-take, lt-ltb x (min n (length places)) (omega arith))
+      | no l ↦ rw (le-ltb x n (omega arith), length-take, le-ltb x (min n (length places)) (omega arith))
+    ]
 
 -- a word of the records whose labels share a bit with the scope
 abbrev pub labelled : List Record → ℕ → ℕ
@@ -36,12 +49,8 @@ module _ (rs : List Record) (states : ℕ) where
   first_disclosed k h =
       elim (dec_lt k (length rs)) [
         | yes l ↦
-            rw (
-              length-take,
-              lt-ltb k (min (min (length rs) 64) (length rs)) (omega arith),
-              lt-ltb k (length rs) l,
-              get_or-take (min (length rs) 64) rs k no_record (omega arith),
-            )
+            sym (disclosed_of rs (min (length rs) 64) states k l)
+            ∙ rw (lt-ltb k (min (length rs) 64) (omega arith), lt-ltb k (length rs) l)
         | no l ↦
             rw (length-take, le-ltb k (min (min (length rs) 64) (length rs)) (omega arith), le-ltb k (length rs) (omega arith))
       ]

@@ -50,9 +50,5 @@ pub fn disclosed(register: &Register, states: u8) -> RecordSet
 pub fn brief_over(register: &Register, states: u8) -> Brief
     ensures { result ≡ brief_struct (contents register.now).records states }
 {
-    let records = disclosed(register, states);
-    Brief {
-        records,
-        count: records.len(),
-    }
+    Brief::from(disclosed(register, states))
 }

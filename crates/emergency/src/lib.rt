@@ -58,9 +58,22 @@ impl TokenList {
     }
 }
 
-// The records that a scope discloses, and how many they are.
+// Records, and how many they are: those that a scope discloses, or those that a draft would change.
 #[derive(Clone, Copy)]
 pub struct Brief {
     pub records: RecordSet,
     pub count: u32,
+}
+
+impl From<RecordSet> for Brief {
+    ghost use Rattle.sets.specs.RecordSets.{set_bits};
+
+    ghost from_gives = { λ records brief. brief ≡ record { records = records; count = set_bits records } };
+
+    fn from(records: RecordSet) -> Brief {
+        Brief {
+            records,
+            count: records.len(),
+        }
+    }
 }

@@ -2,7 +2,7 @@
 ghost use Rattle.std.specs.Prelude.{◌≡◌};
 ghost use Rattle.emergency.specs.Emergency.{scope};
 
-// The labels that each emergency state opens.
+// The labels that each emergency state opens: document 01's table, by the state's number.
 const LABEL_MASKS: [u16; 8] = [
     0x000F, 0x000B, 0x0017, 0x0023, 0x00C3, 0x01C3, 0x0603, 0x000B,
 ];

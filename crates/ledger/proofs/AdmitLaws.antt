@@ -2,6 +2,8 @@
 use mathlib.Core.Path.{◌≡◌, refl, sym, ap, ◌∙◌}
 use mathlib.Core.Bool.{true, false, not}
 use mathlib.Core.List.{List, [], ◌∷◌}
+use lib.Dec.{eqb}
+use Rattle.std.specs.Prelude.{Ok, Err}
 use Rattle.register.specs.declared.Record.{Record}
 use Rattle.directive.specs.declared.Directive.{Directive}
 use Rattle.active.specs.declared.Active.{Active}
@@ -14,15 +16,18 @@ use Rattle.validation_meaning.specs.Judgement.{meant}
 use Rattle.validation_meaning.specs.Searched.{searched}
 use Rattle.ledger.specs.declared.answer.DirectiveRefusal.{DirectiveRefusal}
 use Rattle.ledger.specs.declared.answer.DirectiveRefusal.TheVariants.{OutOfRange, NotInRegister, NoMinutes, NumberTaken, ListFull, BreaksBaseline, Conflicts}
+use Rattle.ledger.specs.declared.answer.CommitRefusal.{CommitRefusal}
+use Rattle.ledger.specs.declared.answer.CommitRefusal.TheVariants as Commit
 use Rattle.ledger_model.specs.Model.{Model}
-use Rattle.ledger_model.specs.Answer.{Answer, done, accepted}
-use Rattle.ledger.specs.Answer.{directive_refusal}
+use Rattle.ledger_model.specs.Answer.{Answer, done, accepted, refusal}
+use Rattle.ledger.specs.Answer.{CommitAnswer, directive_refusal, commit_refusal, commit_answer}
 use Rattle.ledger_model.specs.Questions.{ask, first_no, Outcome, outcome, directive_questions, draft_questions}
 use Rattle.ledger_model.specs.Calls.{with_last, committed_draft_by}
 use Rattle.ledger_model.specs.Invariant.{ModelInvariant}
 use Rattle.ledger_model.proofs.Questions.{outcome_accepted, outcome_refused, outcome_append}
 use Rattle.ledger_model.proofs.Agree.{questions_agree, sound_searchable}
 
+-- a refusal accepts nothing
 pub not_accepted : (r : DirectiveRefusal) → accepted (directive_refusal r) ≡ false
 not_accepted OutOfRange = refl
 not_accepted NotInRegister = refl
@@ -31,6 +36,27 @@ not_accepted NumberTaken = refl
 not_accepted ListFull = refl
 not_accepted BreaksBaseline = refl
 not_accepted (Conflicts n) = refl
+
+pub not_committed : (r : CommitRefusal) → accepted (commit_refusal r) ≡ false
+not_committed Commit.WrongLength = refl
+not_committed (Commit.Directive r) = not_accepted r
+not_committed Commit.Redundant = refl
+
+-- an answer is accepted where it misses no question
+pub directive_accepted : (r : DirectiveRefusal) → accepted (directive_refusal r) ≡ eqb (refusal (directive_refusal r)) 0
+directive_accepted OutOfRange = refl
+directive_accepted NotInRegister = refl
+directive_accepted NoMinutes = refl
+directive_accepted NumberTaken = refl
+directive_accepted ListFull = refl
+directive_accepted BreaksBaseline = refl
+directive_accepted (Conflicts n) = refl
+
+pub commit_accepted : (a : CommitAnswer) → accepted (commit_answer a) ≡ eqb (refusal (commit_answer a)) 0
+commit_accepted (Ok u) = refl
+commit_accepted (Err Commit.WrongLength) = refl
+commit_accepted (Err (Commit.Directive r)) = directive_accepted r
+commit_accepted (Err Commit.Redundant) = refl
 
 -- an active directive that is d's selects what its directive does
 pub own_selection :

@@ -46,40 +46,48 @@ module _ (m : Model) (s : Draft) where
           unfolding directive_questions first_no
           no_11 e = rw (in_ranges, there, timely, free, e)
 
-          module _ (room : ltb (length m.active) active_places ≡ true) where
-            pub no_12 : breaks_baseline_found m.register m.patient m.clock (directive_of s) ≡ true → refused 12 [] ≡ answer
-            unfolding directive_questions first_no
-            no_12 e = rw (in_ranges, there, timely, free, room, e)
+-- a draft that passes the questions 7 to 11
+pub record PassesTo11 (m : Model) (s : Draft) : Type 0 where
+  pub in_ranges : keeps_ranges s ≡ true
+  pub there : in_register m.register (directive_of s) ≡ true
+  pub timely : has_minutes m.clock (directive_of s) ≡ true
+  pub free : is_active (directive_of s).number m.active ≡ false
+  pub room : ltb (length m.active) active_places ≡ true
 
-            module _ (spared : breaks_baseline_found m.register m.patient m.clock (directive_of s) ≡ false) where
-              pub no_13 :
-                  (b : Best) → best_of (keep (conflict_found m.register m.clock (directive_of s)) m.active) ≡ Some b →
-                  refused 13 (b.number ∷ []) ≡ answer
-              unfolding directive_questions first_no
-              no_13 b e =
-                  rw (
-                    in_ranges,
-                    there,
-                    timely,
-                    free,
-                    room,
-                    spared,
-                    sym (best_found (conflict_found m.register m.clock (directive_of s)) m.active),
-                    best_number _ b e,
-                    e,
-                  )
+module _ (m : Model) (s : Draft) (p : PassesTo11 m s) where
+  pub no_12 : breaks_baseline_found m.register m.patient m.clock (directive_of s) ≡ true → refused 12 [] ≡ answer m s
+  unfolding directive_questions first_no
+  no_12 e = rw (p.in_ranges, p.there, p.timely, p.free, p.room, e)
 
-              pub all_passed :
-                  best_of (keep (conflict_found m.register m.clock (directive_of s)) m.active) ≡ None → done [] ≡ answer
-              unfolding directive_questions first_no
-              all_passed e =
-                  rw (
-                    in_ranges,
-                    there,
-                    timely,
-                    free,
-                    room,
-                    spared,
-                    sym (best_found (conflict_found m.register m.clock (directive_of s)) m.active),
-                    e,
-                  )
+  module _ (spared : breaks_baseline_found m.register m.patient m.clock (directive_of s) ≡ false) where
+    pub no_13 :
+        (b : Best) → best_of (keep (conflict_found m.register m.clock (directive_of s)) m.active) ≡ Some b →
+        refused 13 (b.number ∷ []) ≡ answer m s
+    unfolding directive_questions first_no
+    no_13 b e =
+        rw (
+          p.in_ranges,
+          p.there,
+          p.timely,
+          p.free,
+          p.room,
+          spared,
+          sym (best_found (conflict_found m.register m.clock (directive_of s)) m.active),
+          best_number _ b e,
+          e,
+        )
+
+    pub all_passed :
+        best_of (keep (conflict_found m.register m.clock (directive_of s)) m.active) ≡ None → done [] ≡ answer m s
+    unfolding directive_questions first_no
+    all_passed e =
+        rw (
+          p.in_ranges,
+          p.there,
+          p.timely,
+          p.free,
+          p.room,
+          spared,
+          sym (best_found (conflict_found m.register m.clock (directive_of s)) m.active),
+          e,
+        )

@@ -1,12 +1,12 @@
 // What the calls answer where they succeed, and what they are refused for; specs/Answer gives the numbers and values of each case.
-ghost use Rattle.std.specs.Prelude.{◌≡◌};
+ghost use Rattle.std.specs.Prelude.{◌≡◌, Err};
 ghost use Rattle.ledger_model.specs.Answer.{refusal};
-ghost use Rattle.ledger.specs.Answer.{directive_refusal, commit_refusal};
+ghost use Rattle.ledger.specs.Answer.{directive_refusal, commit_refusal, revoke_answer, advance_answer, issue_answer, brief_answer, decide_answer};
 
 use drafts::OutOfRange;
 
 // What questions 7 to 13 refuse, of a draft and of a card's directive alike.
-#[derive(Clone, Copy)]
+#[derive(Clone, Copy, Debug, PartialEq, Eq)]
 pub enum DirectiveRefusal {
     OutOfRange,
     NotInRegister,
@@ -45,7 +45,7 @@ impl From<OutOfRange> for DirectiveRefusal {
     }
 }
 
-#[derive(Clone, Copy)]
+#[derive(Clone, Copy, Debug, PartialEq, Eq)]
 pub enum CommitRefusal {
     WrongLength,
     Directive(DirectiveRefusal),
@@ -76,21 +76,39 @@ impl From<DirectiveRefusal> for CommitRefusal {
 }
 
 // No active directive has the number.
-#[derive(Clone, Copy)]
+#[derive(Clone, Copy, Debug, PartialEq, Eq)]
 pub struct NotActive;
 
+impl NotActive {
+    // The number of the question missed.
+    pub fn question(self) -> u64
+        ensures { result ≡ refusal (revoke_answer (Err self)) }
+    {
+        15
+    }
+}
+
 // How many directives and tokens an advance dropped.
-#[derive(Clone, Copy)]
+#[derive(Clone, Copy, Debug, PartialEq, Eq)]
 pub struct Dropped {
     pub directives: usize,
     pub tokens: usize,
 }
 
 // The minute is before the clock.
-#[derive(Clone, Copy)]
+#[derive(Clone, Copy, Debug, PartialEq, Eq)]
 pub struct BeforeClock;
 
-#[derive(Clone, Copy)]
+impl BeforeClock {
+    // The number of the question missed.
+    pub fn question(self) -> u64
+        ensures { result ≡ refusal (advance_answer (Err self)) }
+    {
+        16
+    }
+}
+
+#[derive(Clone, Copy, Debug, PartialEq, Eq)]
 pub enum IssueRefusal {
     NoState,
     WrongMinutes,
@@ -98,12 +116,35 @@ pub enum IssueRefusal {
     TokensFull,
 }
 
+impl IssueRefusal {
+    // The number of the question missed.
+    pub fn question(self) -> u64
+        ensures { result ≡ refusal (issue_answer (Err self)) }
+    {
+        match self {
+            IssueRefusal::NoState => 18,
+            IssueRefusal::WrongMinutes => 19,
+            IssueRefusal::NumberTaken => 20,
+            IssueRefusal::TokensFull => 21,
+        }
+    }
+}
+
 // No live token has the number and the person.
-#[derive(Clone, Copy)]
+#[derive(Clone, Copy, Debug, PartialEq, Eq)]
 pub struct NoToken;
 
+impl NoToken {
+    // The number of the question missed.
+    pub fn question(self) -> u64
+        ensures { result ≡ refusal (brief_answer (Err self)) }
+    {
+        22
+    }
+}
+
 // One case a basis.
-#[derive(Clone, Copy)]
+#[derive(Clone, Copy, Debug, PartialEq, Eq)]
 pub enum Decision {
     Patient,
     Author,
@@ -112,5 +153,14 @@ pub enum Decision {
 }
 
 // Something of the query is not in the register, or out of range.
-#[derive(Clone, Copy)]
+#[derive(Clone, Copy, Debug, PartialEq, Eq)]
 pub struct NotInRegister;
+
+impl NotInRegister {
+    // The number of the question missed.
+    pub fn question(self) -> u64
+        ensures { result ≡ refusal (decide_answer (Err self)) }
+    {
+        17
+    }
+}

@@ -7,8 +7,8 @@ ghost use Rattle.ledger.specs.Enrolment.{BeginsWith, EnrolsRoles, EnrolsRecord};
 use crate::Ledger;
 use register::{Record, form};
 
-// The ranges of question 4 are not kept.
-#[derive(Clone, Copy)]
+// The ranges of question 4 are not kept; `drafts::OutOfRange` is the same of question 7.
+#[derive(Clone, Copy, Debug, PartialEq, Eq)]
 pub struct OutOfRange;
 
 impl Ledger {

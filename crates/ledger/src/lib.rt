@@ -15,6 +15,7 @@ pub mod decision;
 pub mod enrolment;
 
 // The fields are private: a ledger comes from `empty`, from reading a card, from a call, or back from where it was stored (`from_parts`).
+// Its invariant stands in the promises of the calls and in no ghost field, since one that was stored by no call need not keep it.
 #[derive(Clone, Copy)]
 pub struct Ledger {
     patient: u16,

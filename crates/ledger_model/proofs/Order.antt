@@ -42,7 +42,7 @@ record SameCover (m : Model) (ds : List Directive) : Type 0 where
       (b : Bool) (q : Request) → InRange m.register m.clock q → covered_by m b q ≡ covered_by (with_active m ds) b q
 
 same_decided :
-    (m : Model) (ds : List Directive) → SameCover m ds → (q : Query) → q.person < persons →
+    (m : Model) (ds : List Directive) → SameCover m ds → (q : Query) → q.requester.person < persons →
     take 2 (values (decided m q)) ≡ take 2 (values (decided (with_active m ds) q))
 unfolding decided decision
 same_decided m ds same q person =
@@ -96,7 +96,7 @@ same_advanced m ds t small e same =
 
 same_after :
     (minutes : List ℕ) → all_in (in_bits 32) minutes ≡ true → (m : Model) (ds : List Directive) → SameCover m ds →
-    (q : Query) → q.person < persons →
+    (q : Query) → q.requester.person < persons →
     take 2 (values (decided (model_after m (map advance minutes)) q))
     ≡ take 2 (values (decided (model_after (with_active m ds) (map advance minutes)) q))
 unfolding all_in model_after
@@ -123,7 +123,7 @@ pub same_drafts :
     (m : Model) → ModelInvariant m → (ss ts : List (List ℕ)) → all_in is_bytes ss ≡ true → all_in is_bytes ts ≡ true →
     compatible m ss ≡ true → compatible m ts ≡ true →
     ((b : Bool) (q : Request) → covered_by_drafts m ss b q ≡ covered_by_drafts m ts b q) →
-    (minutes : List ℕ) → all_in (in_bits 32) minutes ≡ true → (q : Query) → q.person < persons →
+    (minutes : List ℕ) → all_in (in_bits 32) minutes ≡ true → (q : Query) → q.requester.person < persons →
     take 2 (values (decided (model_after (model_after m (map commit ss)) (map advance minutes)) q))
     ≡ take 2 (values (decided (model_after (model_after m (map commit ts)) (map advance minutes)) q))
 same_drafts m h ss ts bytes others beside other same minutes small q person =
@@ -143,7 +143,7 @@ same_drafts m h ss ts bytes others beside other same minutes small q person =
 
 pub order_model :
     (m : Model) → ModelInvariant m → (ss ts : List (List ℕ)) → all_in is_bytes ss ≡ true → compatible m ss ≡ true →
-    Permᴰ ss ts → (minutes : List ℕ) → all_in (in_bits 32) minutes ≡ true → (q : Query) → q.person < persons →
+    Permᴰ ss ts → (minutes : List ℕ) → all_in (in_bits 32) minutes ≡ true → (q : Query) → q.requester.person < persons →
     take 2 (values (decided (model_after (model_after m (map commit ss)) (map advance minutes)) q))
     ≡ take 2 (values (decided (model_after (model_after m (map commit ts)) (map advance minutes)) q))
 order_model m h ss ts e beside other minutes small q person =

@@ -23,9 +23,9 @@ use Rattle.validation_meaning.specs.Judgement.{meant}
 use Rattle.ledger_model.specs.Model.{Model}
 use Rattle.ledger_model.specs.Answer.{Answer, done, refused, accepted, values}
 use Rattle.ledger_model.specs.Decision.{matching, decision}
-use Rattle.ledger_model.specs.Questions.{first_no, passes, bytes_questions}
+use Rattle.ledger_model.specs.Questions.{first_no, passes, requester_in_range, bytes_questions}
 use Rattle.ledger_model.specs.Calls.{with_last, after_commit, committed_by, committed, decided}
-use Rattle.ledger_model.specs.Preview.{has_effect, permits, denies, is_change, decision_changes, requester_passes, preview_questions, compared_for, previewed}
+use Rattle.ledger_model.specs.Preview.{has_effect, permits, denies, is_change, decision_changes, preview_questions, compared_for, previewed}
 use Rattle.ledger_model.proofs.Questions.{first_append, first_where, first_passed, first_accepted}
 
 -- one effect is not the other
@@ -60,7 +60,7 @@ pub changed_outside :
     (m n : Model) (w : Requester) (x : ℕ) → has_record m.register.records x ≡ false → decision_changes m n w x ≡ false
 unfolding decision_changes decided first_no
 changed_outside m n w x out =
-    refusal_same _ _ (rw (out, and-false (requester_passes m.register w)))
+    refusal_same _ _ (rw (out, and-false (requester_in_range m.register w)))
 
 -- one directive more, last, on a record that it does not select
 module _ (m : Model) (d : Directive) (w : Requester) (x : ℕ) (out : selects m.register.records d x ≡ false) where

@@ -32,15 +32,15 @@ now m q = request_at q m.clock
 
 -- what passes question 17 is a request in range
 pub in_range_now :
-    (m : Model) → ModelInvariant m → (q : Query) → q.person < persons → passes (decide_questions m q) ≡ true →
+    (m : Model) → ModelInvariant m → (q : Query) → q.requester.person < persons → passes (decide_questions m q) ≡ true →
     InRange m.register m.clock (now m q)
 unfolding all_in
 in_range_now m h q person asked =
     in_range_of m.register m.clock (now m q) person
-    (ltb-true q.role (length m.register.roles) (search (and_left, and_right)))
-    (ltb-true q.origin origins (search (and_left, and_right)))
+    (ltb-true q.requester.role (length m.register.roles) (search (and_left, and_right)))
+    (ltb-true q.requester.origin origins (search (and_left, and_right)))
     (asked_there m.register.records q.«record» (search (and_left, and_right)))
-    (ltb-true q.purpose purposes (search (and_left, and_right)))
+    (ltb-true q.requester.purpose purposes (search (and_left, and_right)))
     (ltb-true m.clock minutes h.clock_in)
     (omega arith)
 

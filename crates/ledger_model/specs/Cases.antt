@@ -105,26 +105,26 @@ after_a = call (commit (A 1 1000 2000)) gives done []
 
 -- "Q: person 600, role 1, origin 1, record 1, purpose 0"
 abbrev pub query : ℕ → ℕ → ℕ → ℕ → ℕ → Query
-query p r o x u = record { person = p; role = r; origin = o; «record» = x; purpose = u }
+query p r o x u = record { requester = record { person = p; role = r; origin = o; purpose = u }; «record» = x }
 
 abbrev pub Q : Query
 Q = query 600 1 1 1 0
 
 -- the same from another person, with another role, from another origin, on another record, with another purpose
 abbrev pub from_person : ℕ → Query → Query
-from_person p q = query p q.role q.origin q.«record» q.purpose
+from_person p q = query p q.requester.role q.requester.origin q.«record» q.requester.purpose
 
 abbrev pub with_role : ℕ → Query → Query
-with_role r q = query q.person r q.origin q.«record» q.purpose
+with_role r q = query q.requester.person r q.requester.origin q.«record» q.requester.purpose
 
 abbrev pub with_origin : ℕ → Query → Query
-with_origin o q = query q.person q.role o q.«record» q.purpose
+with_origin o q = query q.requester.person q.requester.role o q.«record» q.requester.purpose
 
 abbrev pub on_record : ℕ → Query → Query
-on_record x q = query q.person q.role q.origin x q.purpose
+on_record x q = query q.requester.person q.requester.role q.requester.origin x q.requester.purpose
 
 abbrev pub with_purpose : ℕ → Query → Query
-with_purpose u q = query q.person q.role q.origin q.«record» u
+with_purpose u q = query q.requester.person q.requester.role q.requester.origin q.«record» u
 
 -- A decide gives the effect (1 permit, 0 deny), the basis, and the number that basis 3 names.
 unfoldable pub cases : List Case

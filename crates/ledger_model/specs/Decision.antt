@@ -24,15 +24,15 @@ abbrev pub matching : Model → Query → List Directive
 matching m q = keep (λ d. matches m.register d (request_at q m.clock)) m.active
 
 abbrev pub is_patient : Model → Query → Bool
-is_patient m q = nat_eq q.person m.patient
+is_patient m q = nat_eq q.requester.person m.patient
 
 abbrev pub is_author : Model → Query → Bool
-is_author m q = nat_eq q.person (record_at m.register.records q.«record»).author
+is_author m q = nat_eq q.requester.person (record_at m.register.records q.«record»).author
 
 -- "basis 4, the default consent: permit if the requester's origin is among the record's origins and the purpose is 0,
 -- otherwise deny"
 abbrev pub default_permits : Contents → Query → Bool
-default_permits c q = bit q.origin (record_at c.records q.«record»).origins && nat_eq q.purpose 0
+default_permits c q = bit q.requester.origin (record_at c.records q.«record»).origins && nat_eq q.requester.purpose 0
 
 abbrev pub by_default : Model → Query → Decision
 by_default m q = record { permit = default_permits m.register q; basis = 4; named = [] }

@@ -1,7 +1,6 @@
 -- Document 02, #101, See it before signing: what a draft would change for one requester.
 use Rattle.std.specs.Prelude.{ℕ, Bool, false, ◌&&◌, ◌||◌, List, [], ◌∷◌, ◌++◌, nat_eq}
 use Rattle.sets.specs.RecordSets.{marked}
-use Rattle.register.specs.Register.{Contents}
 use Rattle.directive.specs.declared.Requester.{Requester}
 use Rattle.directive.specs.Matching.{query_on}
 use Rattle.validation_meaning.specs.Judgement.{meant}
@@ -31,13 +30,9 @@ is_change before after = permits before && denies after || denies before && perm
 unfoldable pub decision_changes : Model → Model → Requester → ℕ → Bool
 decision_changes before after w x = is_change (decided before (query_on w x)) (decided after (query_on w x))
 
--- "the requester is put to question 17, its record part left out"
-abbrev pub requester_passes : Contents → Requester → Bool
-requester_passes c w = requester_in_range c w.role w.origin w.purpose
-
--- "A draft that would be refused gives that refusal; otherwise the requester is put to question 17"
+-- "A draft that would be refused gives that refusal; otherwise the requester is put to question 17, its record part left out"
 unfoldable pub preview_questions : Model → List ℕ → Requester → List Question
-preview_questions m s w = bytes_questions meant m s ++ (ask 17 (requester_passes m.register w) ∷ [])
+preview_questions m s w = bytes_questions meant m s ++ (ask 17 (requester_in_range m.register w) ∷ [])
 
 -- "the records whose decision at the clock would change, as two 64-bit words and a count, laid out like a brief. .. This
 -- equals committing on a copy of the ledger and deciding every record before and after."
@@ -47,7 +42,7 @@ preview_values m s w = marked (decision_changes m (committed m s).model w)
 -- question 17 of the requester, then the records whose decision changes
 abbrev pub compared_for : Model → Model → Requester → Answer
 compared_for before after w =
-    first_no (ask 17 (requester_passes before.register w) ∷ []) (done (marked (decision_changes before after w)))
+    first_no (ask 17 (requester_in_range before.register w) ∷ []) (done (marked (decision_changes before after w)))
 
 -- What preview answers: the first "no" of the draft and then of the requester, or the words and the count.
 unfoldable pub previewed : Model → List ℕ → Requester → Answer

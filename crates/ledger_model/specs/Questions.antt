@@ -10,6 +10,7 @@ use Rattle.directive.specs.declared.Subject.{Subject}
 use Rattle.directive.specs.declared.Subject.TheVariants.{Person, Role}
 use Rattle.directive.specs.declared.Directive.{Directive}
 use Rattle.directive.specs.declared.Query.{Query}
+use Rattle.directive.specs.declared.Requester.{Requester}
 use Rattle.directive.specs.Places.{active_places}
 use Rattle.drafts.specs.declared.Draft.{Draft}
 use Rattle.drafts.specs.Form.{draft_size, draft_of, keeps_ranges, directive_of}
@@ -115,13 +116,12 @@ abbrev pub advance_questions : Model → ℕ → List Question
 advance_questions m t = ask 16 (nat_le m.clock t) ∷ []
 
 -- the requester's part of question 17: a role, an origin and a purpose
-abbrev pub requester_in_range : Contents → ℕ → ℕ → ℕ → Bool
-requester_in_range c role origin purpose = has_role c.roles role && nat_lt origin origins && nat_lt purpose purposes
+abbrev pub requester_in_range : Contents → Requester → Bool
+requester_in_range c w = has_role c.roles w.role && nat_lt w.origin origins && nat_lt w.purpose purposes
 
 -- "Decide: does the register have role and record, origin < 16, purpose < 11? 17."
 abbrev pub is_in_range : Contents → Query → Bool
-is_in_range c q =
-    requester_in_range c q.role q.origin q.purpose && has_record c.records q.«record»
+is_in_range c q = requester_in_range c q.requester && has_record c.records q.«record»
 
 abbrev pub decide_questions : Model → Query → List Question
 decide_questions m q = ask 17 (is_in_range m.register q) ∷ []

@@ -1,7 +1,7 @@
 -- A preview's answer by the commit's.
 use Prim.Native.Nat.{ℕ}
 use mathlib.Core.Path.{◌≡◌, refl, sym, ap, ◌∙◌}
-use mathlib.Core.Bool.{true, false}
+use mathlib.Core.Bool.{true}
 use mathlib.Core.List.{List}
 use Rattle.std.specs.Prelude.{Ok, Err}
 use Rattle.std.specs.Result.{IsErrAnd}
@@ -14,19 +14,13 @@ use Rattle.ledger_model.specs.Preview.{compared_for}
 use Rattle.ledger_model.proofs.PreviewLaws.{preview_accepted, committed_last, preview_refused}
 use Rattle.ledger.specs.declared.Ledger.{Ledger}
 use Rattle.ledger.specs.declared.answer.CommitRefusal.{CommitRefusal}
-use Rattle.ledger.specs.declared.answer.CommitRefusal.TheVariants.{WrongLength, Directive, Redundant}
 use Rattle.ledger.specs.State.{view}
-use Rattle.ledger.specs.Answer.{CommitAnswer, commit_refusal, commit_answer}
+use Rattle.ledger.specs.Answer.{CommitAnswer, commit_answer}
 use Rattle.ledger.specs.Promises.{after as after_of, Commits}
-use Rattle.ledger.proofs.AdmitLaws.{not_accepted}
+use Rattle.ledger.proofs.AdmitLaws.{not_committed}
 use Rattle.ledger_preview.specs.declared.PreviewRefusal.TheVariants.{Commit}
 use Rattle.ledger_preview.specs.Answer.{PreviewAnswer}
 use Rattle.ledger_preview.specs.Promises.{Compares, Previews}
-
-not_committed : (x : CommitRefusal) → accepted (commit_refusal x) ≡ false
-not_committed WrongLength = refl
-not_committed (Directive r) = not_accepted r
-not_committed Redundant = refl
 
 module _ {l after : Ledger} {s : List ℕ} {w : Requester} {a : CommitAnswer} {b : PreviewAnswer} where
   -- a draft that commit refuses

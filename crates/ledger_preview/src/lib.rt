@@ -18,7 +18,7 @@ use ledger::answer::{CommitRefusal, Decision, NotInRegister};
 use ledger::{Ledger, decision};
 use sets::record_set::RecordSet;
 
-#[derive(Clone, Copy)]
+#[derive(Clone, Copy, Debug, PartialEq, Eq)]
 pub enum PreviewRefusal {
     // the draft would be refused
     Commit(CommitRefusal),
@@ -72,12 +72,14 @@ fn is_change(
     }
 }
 
-// Whether the decision on record x changes.
+// Whether the decision on record x changes. The two ledgers and the requester are handed on as they are: a structure of them would be taken
+// apart in each of the three functions.
 #[tactic(auto, unfolding(ledger_model::specs::Preview::decision_changes))]
 fn changes_at(before: &Ledger, after: &Ledger, w: Requester, x: usize) -> bool
     requires { x < 128 }
     ensures { Invariant before.now → Invariant after.now → result ≡ decision_changes (view before.now) (view after.now) w x }
 {
+    // `as`: x is below 128, and `TryFrom` would answer a `Result` that cannot fail
     let q = w.query_on(x as u8);
     is_change(before.decide(q), after.decide(q))
 }
@@ -87,7 +89,7 @@ fn changed_among(before: &Ledger, after: &Ledger, w: Requester, among: RecordSet
     ensures { Invariant before.now → Invariant after.now → result ≡ record_set_of (λ x. contains among x && decision_changes (view before.now) (view after.now) w x) }
 {
     let mut found = RecordSet::empty();
-    // over the numbers of records: a set has no iterator
+    // over the numbers of records: an iterator of sets for this one loop would be no plainer
     for x in 0..register::RECORDS {
         let changes = among.contains(x) && changes_at(before, after, w, x);
         found = found.with_where(x, changes);
@@ -100,15 +102,11 @@ fn changed_among(before: &Ledger, after: &Ledger, w: Requester, among: RecordSet
 fn compared(before: &Ledger, after: &Ledger, w: Requester) -> Result<Brief, PreviewRefusal>
     ensures { Compares before.now after.now w result }
 {
-    if !decision::requester_in_range(before.register(), w.role, w.origin, w.purpose) {
+    if !decision::requester_in_range(before.register(), w) {
         return Err(PreviewRefusal::RequesterOutOfRange);
     }
     let among = after.active().last_selection();
-    let records = changed_among(before, after, w, among);
-    Ok(Brief {
-        records,
-        count: records.len(),
-    })
+    Ok(Brief::from(changed_among(before, after, w, among)))
 }
 
 // What the draft's bytes, of any length, would change for the requester at the clock: the records whose decision would change, and

@@ -1,12 +1,11 @@
 -- The stored directives that count are those of the list that they stand for.
-use Prim.Native.Nat.{ℕ, ◌<◌}
 use mathlib.Core.Path.{◌≡◌, sym, ap, ◌∙◌}
-use mathlib.Core.List.{List, map}
-use lib.ListN.{length, length-map, take, get_or}
+use mathlib.Core.List.{List, map, map-map}
+use lib.ListN.{length-map, take}
+use Rattle.std.specs.List.{Contains}
 use Rattle.std.proofs.lemmas.List.{take-map}
 use Rattle.sets.proofs.Lists.{map_at}
-use Rattle.active.specs.declared.Active.{Active}
-use Rattle.active.specs.Active.{entries_of, directives_of, no_active}
+use Rattle.active.specs.Active.{entries_of, directives_of}
 use Rattle.ledger_stored.specs.declared.StoredActive.{StoredActive}
 use Rattle.ledger_stored.specs.declared.StoredLedger.{StoredLedger}
 use Rattle.ledger_stored.specs.Stored.{active_of, active_list}
@@ -15,14 +14,9 @@ module _ (t : StoredLedger) {es : List StoredActive} (are : es ≡ take t.active
   brought_back : map active_of es ≡ entries_of (active_list t)
   brought_back = ap (map active_of) are ∙ sym (take-map active_of t.active_count t.active)
 
-  pub entries_long : length (entries_of (active_list t)) ≡ length es
-  entries_long = ap length (sym brought_back) ∙ length-map es active_of
+  pub directives_back : map (λ e. (active_of e).directive) es ≡ directives_of (active_list t)
+  directives_back = sym (map-map (λ a. a.directive) active_of es) ∙ ap (map (λ a. a.directive)) brought_back
 
-  pub directives_long : length (directives_of (active_list t)) ≡ length es
-  directives_long = length-map (entries_of (active_list t)) (λ a. a.directive) ∙ entries_long
-
-  pub entry_back :
-      (i : ℕ) (d : StoredActive) → i < length es →
-      active_of (get_or es i d) ≡ get_or (entries_of (active_list t)) i no_active
-  entry_back i d h =
-      sym (map_at active_of es i d no_active h) ∙ ap (λ (r : List Active). get_or r i no_active) brought_back
+  pub entry_back : {e : StoredActive} → Contains es e → Contains (entries_of (active_list t)) (active_of e)
+  entry_back {e} (i, h, is) =
+      rw (← brought_back) (i, rw length-map h, map_at active_of es i e (active_of e) h ∙ ap active_of is)

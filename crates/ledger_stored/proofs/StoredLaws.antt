@@ -5,7 +5,7 @@ use mathlib.Core.List.{List, [], ◌∷◌, map}
 use lib.Dec.{eqb}
 use Rattle.sets.specs.Quantifiers.{one_if}
 use Rattle.register.specs.declared.records.Reach.{Reach}
-use Rattle.register.specs.declared.records.Reach.TheVariants.{Itself, Children, Descendants, Folder}
+use Rattle.register.specs.declared.records.Reach.TheVariants.{Itself, Children, Descendants, Folder, Nothing}
 use Rattle.register.specs.Records.{reach_of, reach_number}
 use Rattle.directive.specs.declared.Subject.{Subject}
 use Rattle.directive.specs.declared.Subject.TheVariants.{Person, Role}
@@ -28,6 +28,7 @@ reach_back Itself = refl
 reach_back Children = refl
 reach_back Descendants = refl
 reach_back Folder = refl
+reach_back Nothing = refl
 
 active_back : (a : Active) → active_of (stored_active a) ≡ a
 unfolding active_of directive_of stored_active

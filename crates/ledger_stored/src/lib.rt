@@ -66,7 +66,7 @@ impl From<StoredActive> for Active {
                 subject: Subject::named(stored.kind != 0, stored.subject),
                 subject_origins: stored.subject_origins,
                 record: stored.record,
-                reach: Reach::from_number(stored.reach),
+                reach: Reach::from(stored.reach),
                 origins: stored.origins,
                 sensitivities: stored.sensitivities,
                 kinds: stored.kinds,
@@ -96,7 +96,7 @@ impl From<Active> for StoredActive {
             subject: d.subject.number(),
             subject_origins: d.subject_origins,
             record: d.record,
-            reach: d.reach.number(),
+            reach: u8::from(d.reach),
             origins: d.origins,
             sensitivities: d.sensitivities,
             kinds: d.kinds,
@@ -153,6 +153,7 @@ impl From<Token> for StoredToken {
     }
 }
 
+// Arrays and counts: C holds it, in memory of a fixed size.
 #[repr(C)]
 #[derive(Clone, Copy)]
 pub struct StoredLedger {
@@ -237,12 +238,10 @@ impl StoredLedger {
     fn lowest_match(&self, parents: &[u8], q: Request) -> Option<Best>
         ensures { (rs : List Held) → length rs ≤ record_places → ActiveInvariant rs (active_list self.now) → result ≡ best_of (keep (λ d. matches (holding parents.now rs) d q) (directives_of (active_list self.now))) }
     {
-        let mut best = None;
-        for stored in self.entries() {
+        lowest::lowest_met(self.entries(), |stored| {
             let a = Active::from(*stored);
-            best = lowest::lower_where(best, &a.directive, a.matches(parents, q));
-        }
-        best
+            a.matches(parents, q).then_some(Best::of(&a.directive))
+        })
     }
 
     // The decision of the ledger that a stored one stands for. Nothing but the directives that count is brought back.

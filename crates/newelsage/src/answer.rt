@@ -9,13 +9,11 @@ ghost use Rattle.newelsage.specs.Answers.{told, Answered, told_said, told_read, 
 
 use card::ReadRefusal;
 use ledger::Ledger;
+use ledger::answer::NoToken;
 use replay_entries::shown::Line;
 
 // The call is none of the function's, or its value has not the length.
 pub const MALFORMED: u64 = 101;
-
-// Brief's number for no live token.
-const NO_TOKEN: u64 = 22;
 
 // A status with its values.
 fn put(answer: &mut [u64; 8], status: u64, values: &[u64]) -> u64
@@ -74,7 +72,7 @@ pub fn put_token(answer: &mut [u64; 8], ledger: &Ledger, place: u8) -> u64
             ];
             put(answer, 0, &numbers)
         }
-        None => refuse(answer, NO_TOKEN),
+        None => refuse(answer, NoToken.question()),
     }
 }
 

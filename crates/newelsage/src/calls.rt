@@ -1,4 +1,4 @@
-// The library's calls on a stored ledger.
+// The library's calls on a stored ledger. Tags and statuses are numbers, as C gives and takes them.
 ghost use Rattle.std.specs.Prelude.{ℕ, ◌≡◌, List};
 ghost use Rattle.ledger.specs.State.{empty_ledger};
 ghost use Rattle.ledger_stored.specs.Stored.{the_stamp, ledger_of, stored_of};
@@ -44,7 +44,7 @@ pub fn call(stored: &mut StoredLedger, tag: u8, v: &[u8], answer: &mut [u64; 8])
     answer::put_line(answer, &line::line_of(entry))
 }
 
-// A decide, over the stored ledger as it is.
+// A decide, over the stored ledger as it is; `replay_entries` has the one over a ledger.
 fn decide_entry(stored: &StoredLedger, v: &[u8]) -> Result<EntryAnswer, Malformed>
     ensures { (buffer : List ℕ) → Answers (ledger_of stored.now) (decide_entry v.now) buffer result buffer }
 {

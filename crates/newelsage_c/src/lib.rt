@@ -1,4 +1,5 @@
-// libnewelsage, as C, Rust and Python link it (include/newelsage.h): each function of `newelsage` under its name.
+// libnewelsage, as C, Rust and Python link it (include/newelsage.h): each function of `newelsage` under its name. A crate of its own, since
+// no crate can use a static library.
 #![tactic(auto)]
 
 ghost use Rattle.std.specs.Prelude.{◌≡◌, ◌%◌};

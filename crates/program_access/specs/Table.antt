@@ -8,8 +8,9 @@ use Rattle.directive.specs.declared.Requester.{Requester}
 use Rattle.directive.specs.Matching.{query_on}
 use Rattle.ledger_model.specs.Answer.{Answer, done, refused, accepted, refusal}
 use Rattle.ledger_model.specs.Model.{Model}
+use Rattle.ledger_model.specs.Questions.{requester_in_range}
 use Rattle.ledger_model.specs.Calls.{committed, decided}
-use Rattle.ledger_model.specs.Preview.{decision_changes, requester_passes}
+use Rattle.ledger_model.specs.Preview.{decision_changes}
 use Rattle.card.specs.Reading.{reading}
 use Rattle.text.specs.Text.{decimal, line_end, numbers_text}
 use Rattle.program_access.specs.Words.{record_word, colon_word, permit_word, deny_word, basis_word, open_word, patient_word, author_word, directive_word, default_word, close_word, refused_word, changes_word, count_word, card_refused_word, draft_refused_word, named_word, requester_refused_word}
@@ -66,7 +67,7 @@ count_text m after w = numbered_text count_word (set_bits (record_set_of (decisi
 -- the table of all records and the text after it; where the requester is out of range, 17 alone
 abbrev pub requester_text : Model → Model → Requester → List ℕ → List ℕ
 requester_text m after w end =
-    pick (requester_passes m.register w) (record_texts m after w (length m.register.records) ++ end)
+    pick (requester_in_range m.register w) (record_texts m after w (length m.register.records) ++ end)
     (numbered_text requester_refused_word 17)
 
 -- what a refusal adds to its number: 13 names a directive
@@ -110,4 +111,4 @@ abbrev pub is_table : List ℕ → Option (List ℕ) → Requester → Bool
 is_table card d w =
     accepted (reading card).answer
     && draft_accepted (reading card).model d
-    && requester_passes (reading card).model.register w
+    && requester_in_range (reading card).model.register w

@@ -2,7 +2,7 @@
 // line also says what its commit would change, and a last line how many records change.
 #![tactic(auto)]
 
-ghost use Rattle.std.specs.Prelude.{◌≡◌, ◌≤◌, List, ℕ, Option, length, take, IfSome};
+ghost use Rattle.std.specs.Prelude.{◌≡◌, ◌+◌, ◌≤◌, List, ℕ, Option, length, take, IfSome};
 ghost use Rattle.std.specs.Option.{option_copied};
 ghost use Rattle.std.specs.Result.{result_unwrap_or};
 ghost use Rattle.arguments.specs.Decimal.{Bounded};
@@ -15,37 +15,35 @@ use std::env::Env;
 use std::io::{Read, Write};
 use streams::{Failed, Status};
 use table::Table;
+use text::Text;
 
 mod draft;
 mod table;
 mod words;
 
-// Who asks, and how many bytes the draft has in its buffer, where there is one.
+// Who asks, and how many bytes the draft has, where there is one. They are a part of the caller's buffer, since nothing is allocated.
 #[derive(Clone, Copy)]
 pub struct Inquiry {
     pub requester: Requester,
     pub draft_size: Option<usize>,
 }
 
-// The length of a text, and how the program ends that prints it: a table is a success.
-#[derive(Clone, Copy)]
-pub struct Shown {
-    pub size: usize,
-    pub status: Status,
-}
-
-// Who may read which record of the card, and what the draft would change, if there is one; at the start of the buffer.
-fn access(card: &[u8], draft: Option<&[u8]>, w: Requester, out: &mut [u8]) -> Shown
-    requires { 18480 ≤ length out.old }
-    ensures { Shows card.now (option_copied draft.entry) w result out.new }
+// Who may read which record of the card, and what the draft would change, if there is one; how the program ends that prints it.
+#[tactic(auto, using(crate::proofs::TableLaws::card_read), unfolding(crate::specs::Words::card_refused_word))]
+fn access<const N: usize>(
+    card: &[u8],
+    draft: Option<&[u8]>,
+    w: Requester,
+    out: &mut Text<N>,
+) -> Status
+    requires { length out.old + 18480 ≤ N }
+    ensures { Shows card.now (option_copied draft.entry) w out.old result out.new }
 {
     let ledger = match card_reading::read::read(card) {
         Ok(ledger) => ledger,
         Err(why) => {
-            return Shown {
-                size: words::put_numbered(out, 0, b"card refused: question ", why.question()),
-                status: Status::Refused,
-            };
+            words::put_numbered(out, b"card refused: question ", why.question());
+            return Status::Refused;
         }
     };
     match draft {
@@ -53,9 +51,8 @@ fn access(card: &[u8], draft: Option<&[u8]>, w: Requester, out: &mut [u8]) -> Sh
         None => {
             let table = Table {
                 ledger: &ledger,
-                after: &ledger,
-                changed: None,
                 requester: w,
+                change: None,
             };
             table.put_requester(out)
         }
@@ -127,12 +124,13 @@ pub fn run<E: Eprint, R: Read, W: Write>(
 ) -> Result<Status, Failed>
     ensures { IfSome (R.remaining input.old) (λ bytes. Answers (take 65535 bytes) (option_copied draft.entry) w (result_unwrap_or result Status.Failed) (W.contents output.old) (W.contents output.new)) }
 {
+    // a read needs a buffer, and a card has at most 65,535 bytes
     let mut card = [0u8; 65535];
     let n = streams::fill(rt, input, &mut card)?;
-    let mut out = [0u8; 18480];
-    let shown = access(&card[..n], draft, w, &mut out);
-    streams::put(rt, output, &out[..shown.size])?;
-    Ok(shown.status)
+    let mut out = Text::<18480>::new();
+    let status = access(&card[..n], draft, w, &mut out);
+    streams::put(rt, output, out.as_slice())?;
+    Ok(status)
 }
 
 // The whole program. It ends as `run` does, or fails where the arguments cannot be used. Then it prints its usage on standard error, and
@@ -144,6 +142,7 @@ pub fn access_main<E: Env + Eprint, R: Read, W: Write>(
 ) -> Status
     ensures { (d : Option (List ℕ)) × (w : Requester) × IfSome (R.remaining input.old) (λ bytes. Answers (take 65535 bytes) d w result (W.contents output.old) (W.contents output.new)) }
 {
+    // an argument is read into a buffer: a draft of more bytes cannot be used
     let mut buffer = [0u8; 512];
     let Some(asked) = from_arguments(rt, &mut buffer) else {
         let _ = rt.eprintln("usage: access PERSON ROLE ORIGIN PURPOSE [DRAFT] < CARD");

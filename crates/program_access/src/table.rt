@@ -1,104 +1,111 @@
 // The table of all records of a ledger for one requester, with what a draft's commit would change.
-ghost use Rattle.std.specs.Prelude.{◌+◌, ◌<◌, ◌≤◌, ◌≡◌, true, length};
-ghost use Rattle.ledger_model.specs.Preview.{requester_passes};
-ghost use Rattle.ledger.specs.State.{view};
-ghost use Rattle.text.specs.Puts.{Puts};
-ghost use Rattle.program_access.specs.Table.{change_text, record_text, record_texts, requester_text};
-ghost use Rattle.program_access.specs.Promises.{end_text, IsSound, HasChanges, Prints};
+ghost use Rattle.std.specs.Prelude.{◌+◌, ◌++◌, ◌<◌, ◌≤◌, ◌≡◌, true, length};
+ghost use Rattle.ledger.specs.Invariant.{Invariant};
 
-use crate::{Shown, words};
+use crate::words;
 use directive::Requester;
 use ledger::{Ledger, decision};
 use sets::record_set::RecordSet;
 use streams::Status;
+use text::Text;
 
-// A ledger, the ledger after a draft's commit, and who asks. The records are those whose decision the commit changes; without a draft there
-// are none, and both ledgers are one.
+// What a draft's commit would change: the ledger after it, and the records whose decision changes.
 #[derive(Clone, Copy)]
-pub struct Table<'a> {
-    pub ledger: &'a Ledger,
+pub struct Change<'a> {
     pub after: &'a Ledger,
-    pub changed: Option<RecordSet>,
-    pub requester: Requester,
+    pub records: RecordSet,
+    ghost sound: { Invariant after.now },
 }
 
-impl Table<'_> {
-    // The decision on record i after the change, where it changes.
-    fn put_change(&self, out: &mut [u8], at: usize, i: usize) -> usize
-        requires sound { IsSound self.now × HasChanges self.now }
-        requires i_bound { (i < 128) × (at + 61 ≤ length out.old) }
-        ensures puts { Puts out.old at (change_text (view self.now.ledger.now) (view self.now.after.now) self.now.requester i) out.new result }
-        ensures upper_bound { result ≤ at + 61 }
+// A ledger, who asks, and what a draft would change, where there is one.
+#[derive(Clone, Copy)]
+pub struct Table<'a, 'b> {
+    pub ledger: &'a Ledger,
+    pub requester: Requester,
+    pub change: Option<Change<'b>>,
+    ghost sound: { Invariant ledger.now },
+}
+
+impl Table<'_, '_> {
+    ghost use Rattle.ledger_model.specs.Questions.{requester_in_range};
+    ghost use Rattle.ledger.specs.State.{view};
+    ghost use Rattle.program_access.specs.Table.{change_text, record_text, record_texts, requester_text};
+    ghost use Rattle.program_access.specs.Promises.{after_of, end_text, HasChanges, Prints};
+
+    // The decision on record i after the change, where it changes. `as`, since std has no `From` from `usize` to `u8`, and its `TryFrom` would
+    // answer a `Result` that cannot fail: there are at most 128 records.
+    fn put_change<const N: usize>(&self, out: &mut Text<N>, i: usize)
+        requires has_changes { HasChanges self.now }
+        requires i_bound { (i < 128) × (length out.old + 61 ≤ N) }
+        ensures text { out.new ≡ out.old ++ change_text (view self.now.ledger.now) (after_of self.now) self.now.requester i }
+        ensures growth { length out.new ≤ length out.old + 61 }
     {
-        match self.changed {
-            Some(records) if records.contains(i) => {
-                let answer = text::copy::put_bytes(out, at, b", changes to ");
-                let q = self.requester.query_on(i as u8);
-                words::put_answer(out, answer, self.after.decide(q))
-            }
-            _ => at,
+        let Some(change) = self.change else {
+            return;
+        };
+        if change.records.contains(i) {
+            out.push_bytes(b", changes to ");
+            let q = self.requester.query_on(i as u8);
+            words::put_answer(out, change.after.decide(q));
         }
     }
 
-    // The line of record i, from place `at` on; the place after it.
-    fn put_record(&self, out: &mut [u8], at: usize, i: usize) -> usize
-        requires sound { IsSound self.now × HasChanges self.now }
-        requires i_bound { (i < 128) × (at + 144 ≤ length out.old) }
-        ensures puts { Puts out.old at (record_text (view self.now.ledger.now) (view self.now.after.now) self.now.requester i) out.new result }
-        ensures upper_bound { result ≤ at + 144 }
+    // The line of record i; `as` for the same reason.
+    #[tactic(auto, unfolding(crate::specs::Table::record_text))]
+    fn put_record<const N: usize>(&self, out: &mut Text<N>, i: usize)
+        requires has_changes { HasChanges self.now }
+        requires i_bound { (i < 128) × (length out.old + 144 ≤ N) }
+        ensures text { out.new ≡ out.old ++ record_text (view self.now.ledger.now) (after_of self.now) self.now.requester i }
+        ensures growth { length out.new ≤ length out.old + 144 }
     {
         let q = self.requester.query_on(i as u8);
-        let change = words::put_decision(out, at, i, self.ledger.decide(q));
-        let end = self.put_change(out, change, i);
-        text::copy::put_bytes(out, end, b"\n")
+        words::put_decision(out, i, self.ledger.decide(q));
+        self.put_change(out, i);
+        out.push_bytes(b"\n");
     }
 
-    // A line a record, at the start of the buffer; the place after them. A line has room in 144 bytes.
-    fn put_table(&self, out: &mut [u8]) -> usize
-        requires { IsSound self.now × HasChanges self.now × (18432 ≤ length out.old) }
-        ensures puts { Puts out.old 0 (record_texts (view self.now.ledger.now) (view self.now.after.now) self.now.requester (length (view self.now.ledger.now).register.records)) out.new result }
-        ensures upper_bound { result ≤ 18432 }
+    // A line a record. A line has room in 144 bytes.
+    #[tactic(auto, unfolding(crate::specs::Table::record_texts))]
+    fn put_table<const N: usize>(&self, out: &mut Text<N>)
+        requires { HasChanges self.now × (length out.old + 18432 ≤ N) }
+        ensures text { out.new ≡ out.old ++ record_texts (view self.now.ledger.now) (after_of self.now) self.now.requester (length (view self.now.ledger.now).register.records) }
+        ensures growth { length out.new ≤ length out.old + 18432 }
     {
         let count = self.ledger.register().records().len();
-        let mut at: usize = 0;
+        // a line needs the number of its record alone
         for i in 0..count {
-            at = self.put_record(out, at, i);
+            self.put_record(out, i);
         }
-        at
     }
 
     // How many records change, where there is a draft.
-    fn put_count(&self, out: &mut [u8], at: usize) -> usize
-        requires { HasChanges self.now × (at + 48 ≤ length out.old) }
-        ensures puts { Puts out.old at (end_text self.now) out.new result }
-        ensures upper_bound { result ≤ at + 48 }
+    #[tactic(auto, unfolding(crate::specs::Words::count_word))]
+    fn put_count<const N: usize>(&self, out: &mut Text<N>)
+        requires { HasChanges self.now × (length out.old + 48 ≤ N) }
+        ensures text { out.new ≡ out.old ++ end_text self.now }
+        ensures growth { length out.new ≤ length out.old + 48 }
     {
-        match self.changed {
-            Some(records) => {
-                let count = u64::from(records.len());
-                words::put_numbered(out, at, b"records that change: ", count)
-            }
-            None => at,
+        if let Some(change) = self.change {
+            let count = u64::from(change.records.len());
+            words::put_numbered(out, b"records that change: ", count);
         }
     }
 
-    // The table, where the requester passes question 17, and how many records change, where there is a draft.
-    pub fn put_requester(&self, out: &mut [u8]) -> Shown
-        requires sound { IsSound self.now × (18480 ≤ length out.old) }
-        requires has_changes { requester_passes (view self.now.ledger.now).register self.now.requester ≡ true → HasChanges self.now }
-        ensures { Prints (requester_text (view self.now.ledger.now) (view self.now.after.now) self.now.requester (end_text self.now)) (requester_passes (view self.now.ledger.now).register self.now.requester) result out.new }
+    // The table, where the requester passes question 17, and how many records change, where there is a draft. How the program ends that
+    // prints it: a table is a success.
+    #[tactic(auto, unfolding(crate::specs::Words::requester_refused_word))]
+    pub fn put_requester<const N: usize>(&self, out: &mut Text<N>) -> Status
+        requires room { length out.old + 18480 ≤ N }
+        requires has_changes { requester_in_range (view self.now.ledger.now).register self.now.requester ≡ true → HasChanges self.now }
+        ensures { Prints (requester_text (view self.now.ledger.now) (after_of self.now) self.now.requester (end_text self.now)) (requester_in_range (view self.now.ledger.now).register self.now.requester) out.old result out.new }
     {
         let w = self.requester;
-        if !decision::requester_in_range(self.ledger.register(), w.role, w.origin, w.purpose) {
-            return Shown {
-                size: words::put_numbered(out, 0, b"requester refused: question ", 17),
-                status: Status::Refused,
-            };
+        if !decision::requester_in_range(self.ledger.register(), w) {
+            words::put_numbered(out, b"requester refused: question ", 17);
+            return Status::Refused;
         }
-        let end = self.put_table(out);
-        Shown {
-            size: self.put_count(out, end),
-            status: Status::Success,
-        }
+        self.put_table(out);
+        self.put_count(out);
+        Status::Success
     }
 }

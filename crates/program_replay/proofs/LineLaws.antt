@@ -2,7 +2,7 @@
 use Prim.Native.Nat.{ℕ, min}
 use Rattle.std.proofs.Common.{is_ok, Ok, Err}
 use mathlib.Core.Path.{◌≡◌, refl, ap, ◌∙◌}
-use mathlib.Core.Bool.{true}
+use mathlib.Core.Bool.{Bool, true}
 use mathlib.Core.List.{List, [], ◌∷◌, append_assoc}
 use lib.ListN.{length, take, length-take}
 use lib.Seq.{take-append_seam}
@@ -17,8 +17,6 @@ use Rattle.replay_entries.specs.declared.entry.EntryAnswer.TheVariants as Case
 use Rattle.replay_entries.specs.declared.shown.Line.{Line}
 use Rattle.replay_entries.specs.Entries.{Entry, write, EntryReply, said_of, line_of, shown_of, Shows, Performed}
 use Rattle.text.specs.Text.{line_text}
-use Rattle.text.specs.Puts.{StartsWith}
-use Rattle.program_replay.specs.declared.answer.Shown.{Shown}
 use Rattle.program_replay.specs.Lines.{entry_text, goes_on_after}
 use Rattle.program_replay.specs.Promises.{Prints, EntryTurn}
 
@@ -44,19 +42,19 @@ told (Err m) = refl
 
 -- the numbers of a line and the lent bytes that it shows, or all where there are fewer
 pub printed :
-    (a : EntryReply) {line : Line} {n size : ℕ} {out : List ℕ} (lent : List ℕ) → Shows line (line_of (said_of a)) (shown_of (said_of a)) →
-    n ≡ min line.bytes (length lent) → StartsWith out size (line_text (take line.count line.numbers) (take n lent)) →
-    Prints (said_of a) lent (record { size = size; goes_on = is_ok a }) out
-printed a lent shows e starts =
+    (a : EntryReply) {line : Line} {n : ℕ} {out : List ℕ} (lent : List ℕ) → Shows line (line_of (said_of a)) (shown_of (said_of a)) →
+    n ≡ min line.bytes (length lent) → out ≡ line_text (take line.count line.numbers) (take n lent) →
+    Prints (said_of a) lent (is_ok a) out
+printed a lent shows e text =
     record {
-      line = rw (shows.numbers, e, shows.bytes, ← length-take (shown_of (said_of a)) lent, take_held (shown_of (said_of a)) lent) at starts;
+      line = rw (shows.numbers, e, shows.bytes, ← length-take (shown_of (said_of a)) lent, take_held (shown_of (said_of a)) lent) at text;
       goes_on = told a;
     }
 
 -- an entry that is performed and whose answer is printed
 pub turned :
-    {l next : Ledger} {e : Entry} {before after out : List ℕ} {a : EntryReply} {shown : Shown} →
-    Performed l e before a next after → Prints (said_of a) after shown out → EntryTurn l e before next shown after out
+    {l next : Ledger} {e : Entry} {before after out : List ℕ} {a : EntryReply} {more : Bool} →
+    Performed l e before a next after → Prints (said_of a) after more out → EntryTurn l e before next more after out
 turned performed prints =
     record {
       line = rw (performed.answer, performed.buffer) at prints.line;

@@ -57,7 +57,7 @@ impl Record {
             && self.kind <= LAST_KIND
     }
 
-    // Writes the record's ten bytes from place `at` on.
+    // Writes the record's ten bytes from place `at` on; a place for the reason in `sets::number`.
     pub fn put(self, s: &mut [u8], at: usize)
         requires { at + record_size ≤ length s.old }
         ensures { s.new ≡ sets s.old at (record_bytes self) }

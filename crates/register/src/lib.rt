@@ -15,6 +15,9 @@ pub const ROLES: usize = 16;
 // How many records there can be.
 pub const RECORDS: usize = 128;
 
+// How many bytes a record has on a card.
+pub const RECORD_SIZE: usize = 10;
+
 // The last reach that there is.
 pub const LAST_REACH: u8 = 3;
 
@@ -82,9 +85,6 @@ impl Register {
     pub fn record_at(&self, x: usize) -> Record
         ensures { result ≡ record_at (contents self.now).records x }
     {
-        match self.records().get(x) {
-            Some(record) => *record,
-            None => Record::default(),
-        }
+        self.records().get(x).copied().unwrap_or_default()
     }
 }

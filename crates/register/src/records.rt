@@ -1,6 +1,6 @@
 // Records: parents and reaches.
 ghost use Rattle.std.specs.Prelude.{◌≡◌, ◌&&◌, nat_eq, nat_lt};
-ghost use Rattle.register.specs.Records.{reach_number, reach_of, reach_takes};
+ghost use Rattle.register.specs.Records.{reach_takes};
 
 // Which records a directive reaches from its own.
 #[derive(Clone, Copy, Debug, PartialEq, Eq)]
@@ -12,33 +12,47 @@ pub enum Reach {
     Descendants,
     // the record with all its descendants
     Folder,
+    // no record; question 7 lets no such number through
+    Nothing,
 }
 
-impl Reach {
-    // The reach of a number; free past the last.
-    pub fn from_number(number: u8) -> Reach
-        ensures { result ≡ reach_of number }
-    {
+// The reach of a number; past the last it takes nothing. That is no error, since a stored ledger holds any number and is brought back all the
+// same.
+impl From<u8> for Reach {
+    ghost use Rattle.register.specs.Records.{reach_of};
+
+    ghost from_gives = { λ number reach. reach ≡ reach_of number };
+
+    fn from(number: u8) -> Reach {
         match number {
             0 => Reach::Itself,
             1 => Reach::Children,
             2 => Reach::Descendants,
-            _ => Reach::Folder,
+            3 => Reach::Folder,
+            _ => Reach::Nothing,
         }
     }
+}
 
-    pub fn number(self) -> u8
-        ensures { result ≡ reach_number self }
-    {
-        match self {
+impl From<Reach> for u8 {
+    ghost use Rattle.register.specs.Records.{reach_number};
+
+    ghost from_gives = { λ reach number. number ≡ reach_number reach };
+
+    fn from(reach: Reach) -> u8 {
+        match reach {
             Reach::Itself => 0,
             Reach::Children => 1,
             Reach::Descendants => 2,
             Reach::Folder => 3,
+            Reach::Nothing => 4,
         }
     }
+}
 
-    // Whether it takes a record that is the record itself, a child, a descendant.
+impl Reach {
+    // Whether it takes a record that is the record itself, a child, a descendant. Three tests, and no structure of
+    // them: each is named where it is made.
     pub fn takes(self, itself: bool, child: bool, descendant: bool) -> bool
         ensures { result ≡ reach_takes self itself child descendant }
     {
@@ -47,6 +61,7 @@ impl Reach {
             Reach::Children => child,
             Reach::Descendants => descendant,
             Reach::Folder => itself || descendant,
+            Reach::Nothing => false,
         }
     }
 }

@@ -1,5 +1,5 @@
-// Roles by their parents: which roles a role covers.
-ghost use Rattle.std.specs.Prelude.{◌≡◌, ◌&&◌, length};
+// Roles by their parents: which roles a role covers, and sets of roles.
+ghost use Rattle.std.specs.Prelude.{◌≡◌, ◌&&◌, Bool, ℕ, length};
 ghost use Rattle.sets.specs.Quantifiers.{some_of};
 ghost use Rattle.sets.specs.Bits.{set_of};
 ghost use Rattle.register.specs.Register.{role_places};
@@ -31,15 +31,24 @@ pub fn meet(parents: &[u8], n: u16, k: u16) -> bool
         || usize::from(n) < roles && covers(parents, k, n)
 }
 
-// The roles that role r covers, as a set.
-pub fn covered_set(parents: &[u8], r: u16) -> u16
-    ensures { result ≡ set_of role_places (λ q. has_role parents.now q && covers parents.now r q) }
+// The roles that pass the test, as a set.
+pub fn set_where<F: Fn(u16) -> bool>(parents: &[u8], test: F) -> u16
+    requires { F.IsAlwaysCallable test }
+    ensures { (p : ℕ → Bool) → ((q : ℕ) (b : Bool) → F.post test q b → b ≡ p q) → result ≡ set_of role_places (λ q. has_role parents.now q && p q) }
 {
     let mut set: u16 = 0;
+    // Over the numbers of the roles, which index nothing. `as`: there are at most 16, and `TryFrom` would answer a `Result` that cannot fail.
     for q in 0..parents.len().min(ROLES) as u16 {
-        if covers(parents, r, q) {
+        if test(q) {
             set += 1 << q;
         }
     }
     set
+}
+
+// The roles that role r covers, as a set.
+pub fn covered_set(parents: &[u8], r: u16) -> u16
+    ensures { result ≡ set_of role_places (λ q. has_role parents.now q && covers parents.now r q) }
+{
+    set_where(parents, |q| covers(parents, r, q))
 }

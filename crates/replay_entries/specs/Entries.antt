@@ -39,11 +39,14 @@ query_size = 7
 abbrev pub query_of : List ℕ → Query
 query_of v =
     record {
-      person = number_at 0 2 v;
-      role = number_at 2 2 v;
-      origin = number_at 4 1 v;
+      requester =
+          record {
+            person = number_at 0 2 v;
+            role = number_at 2 2 v;
+            origin = number_at 4 1 v;
+            purpose = number_at 6 1 v;
+          };
       «record» = number_at 5 1 v;
-      purpose = number_at 6 1 v;
     }
 
 abbrev pub requester_size : ℕ

@@ -27,10 +27,10 @@ pub enum EntryAnswer {
 }
 
 // A tag or a length that no call has.
-#[derive(Clone, Copy)]
+#[derive(Clone, Copy, Debug, PartialEq, Eq)]
 pub struct Malformed;
 
-// Whether the value has the length.
+// Malformed where the value has another length.
 pub fn has_length(v: &[u8], n: usize) -> Result<(), Malformed>
     ensures { MatchResult result (λ _. length v.now ≡ n) (λ _. length v.now ≢ n) }
 {
@@ -78,11 +78,13 @@ pub fn query_of(v: &[u8]) -> Query
     ensures { result ≡ query_of v.now }
 {
     Query {
-        person: u16::get(v, 0),
-        role: u16::get(v, 2),
-        origin: u8::get(v, 4),
+        requester: Requester {
+            person: u16::get(v, 0),
+            role: u16::get(v, 2),
+            origin: u8::get(v, 4),
+            purpose: u8::get(v, 6),
+        },
         record: u8::get(v, 5),
-        purpose: u8::get(v, 6),
     }
 }
 
@@ -109,7 +111,7 @@ fn write_entry(ledger: &Ledger, v: &[u8], buffer: &mut [u8]) -> Result<EntryAnsw
     Ok(EntryAnswer::Write(card_writing::write::write(ledger, &mut buffer[..n])))
 }
 
-// The requester at the start of a preview's value.
+// The requester at the start of a preview's value; in a decide's the record stands before the purpose.
 fn requester_of(v: &[u8]) -> Requester
     requires { requester_size ≤ length v.now }
     ensures { result ≡ requester_of v.now }
@@ -133,7 +135,8 @@ fn preview_entry(ledger: &Ledger, v: &[u8]) -> Result<EntryAnswer, Malformed>
     Ok(EntryAnswer::Preview(changes))
 }
 
-// Whether the tag is of a call that can change the ledger.
+// Whether the tag is of a call that can change the ledger. A tag stays the byte that the replay gives: these functions take any, and an enum
+// would be made of it and matched again in each.
 #[tactic(auto, unfolding(crate::specs::Entries::is_call))]
 pub fn is_call(tag: u8) -> bool
     ensures { result ≡ is_call tag }
@@ -141,8 +144,7 @@ pub fn is_call(tag: u8) -> bool
     matches!(tag, 0x10..=0x13)
 }
 
-// The call of this tag and value, on this ledger; the tag of a query is malformed here. Each tag stands once, beside its call: an enum of
-// them would say each twice more.
+// The call of this tag and value, on this ledger; the tag of a query is malformed here.
 #[tactic(auto, unfolding(crate::specs::Entries::entry_of, crate::specs::Entries::is_call))]
 pub fn run_call(ledger: &mut Ledger, tag: u8, v: &[u8]) -> Result<EntryAnswer, Malformed>
     ensures { Performs ledger.old (call_entry tag v.now) (after result ledger.new) }

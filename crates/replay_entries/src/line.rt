@@ -1,4 +1,5 @@
-// The line of each answer.
+// The line of each answer. No generic function stands for several: their errors would need a trait that nothing else uses. A `usize` becomes a
+// number by `as`: std has no `From` for it.
 ghost use Rattle.std.specs.Prelude.{◌≡◌};
 ghost use Rattle.ledger.specs.Answer.{directive_refusal, commit_refusal, commit_answer, revoke_answer, advance_answer, issue_answer, brief_answer, decide_answer};
 ghost use Rattle.ledger_preview.specs.Answer.{preview_answer};
@@ -51,7 +52,7 @@ fn revoke_line(a: Result<(), NotActive>) -> Line
 {
     match a {
         Ok(()) => Line::of(&[0]),
-        Err(NotActive) => Line::of(&[15]),
+        Err(NotActive) => Line::of(&[NotActive.question()]),
     }
 }
 
@@ -60,7 +61,7 @@ fn advance_line(a: Result<Dropped, BeforeClock>) -> Line
 {
     match a {
         Ok(dropped) => Line::of(&[0, dropped.directives as u64, dropped.tokens as u64]),
-        Err(BeforeClock) => Line::of(&[16]),
+        Err(BeforeClock) => Line::of(&[BeforeClock.question()]),
     }
 }
 
@@ -69,10 +70,7 @@ fn issue_line(a: Result<(), IssueRefusal>) -> Line
 {
     match a {
         Ok(()) => Line::of(&[0]),
-        Err(IssueRefusal::NoState) => Line::of(&[18]),
-        Err(IssueRefusal::WrongMinutes) => Line::of(&[19]),
-        Err(IssueRefusal::NumberTaken) => Line::of(&[20]),
-        Err(IssueRefusal::TokensFull) => Line::of(&[21]),
+        Err(refusal) => Line::of(&[refusal.question()]),
     }
 }
 
@@ -86,7 +84,7 @@ fn decide_line(a: Result<Decision, NotInRegister>) -> Line
             Line::of(&[0, u64::from(permit), 3, u64::from(number)])
         }
         Ok(Decision::Default { permit }) => Line::of(&[0, u64::from(permit), 4]),
-        Err(NotInRegister) => Line::of(&[17]),
+        Err(NotInRegister) => Line::of(&[NotInRegister.question()]),
     }
 }
 
@@ -95,7 +93,7 @@ fn brief_line(a: Result<Brief, NoToken>) -> Line
 {
     match a {
         Ok(Brief { records, count }) => Line::of(&[0, records.low, records.high, u64::from(count)]),
-        Err(NoToken) => Line::of(&[22]),
+        Err(NoToken) => Line::of(&[NoToken.question()]),
     }
 }
 
@@ -120,7 +118,9 @@ fn preview_line(a: Result<Brief, PreviewRefusal>) -> Line
     match a {
         Ok(changes) => brief_line(Ok(changes)),
         Err(PreviewRefusal::Commit(why)) => refusal_line(why),
-        Err(PreviewRefusal::RequesterOutOfRange) => Line::of(&[17]),
+        Err(PreviewRefusal::RequesterOutOfRange) => {
+            Line::of(&[PreviewRefusal::RequesterOutOfRange.question()])
+        },
     }
 }
 

@@ -4,13 +4,14 @@ use mathlib.Core.Path.{◌≡◌, refl, sym, ap, ◌∙◌}
 use mathlib.Core.Bool.{true}
 use mathlib.Core.List.{List, [], ◌∷◌, ◌++◌, append-nil}
 use native.Mathlib.Nat.{add-zero, add-suc, suc-add, zero-add, mul_assoc, pow-suc, pow-succ', div-add-mod', mul-le-mul_right, lt_of_lt_of_le, min-le_left, pow-le-pow_right, add-sub_of_le, div-div-eq-div-mul}
-use native.Mathlib.Numerals.{add-one, add-two}
+use native.Mathlib.Numerals.{add-one}
 use native.Mathlib.Omega.{arith}
 use borrow.Author.Tests.{ltb-true, lt-ltb}
 use lib.Dec.{ltb, lit<}
 use lib.Arith.{digits_div, digits_mod}
 use lib.ListN.{length, get_or, take, drop, length-append, length-take, length-drop}
 use lib.Seq.{drop-cons, append_snoc, take-append-le, drop-append-le, drop-append-add, length-take-le, take-add}
+use Rattle.std.specs.Int.{byte_at, bytes_high_first}
 use Rattle.sets.specs.Quantifiers.{all_in}
 use Rattle.sets.specs.Numbers.{number_from, number, number_at, bytes, is_bytes}
 use Rattle.sets.proofs.Quantifiers.{and_both}
@@ -95,26 +96,19 @@ pub number_first :
     number_at i (suc n) s ≡ number_from (get_or s i 0) (take n (drop j s))
 number_first i j n s h e = number_next 0 i j n s h e ∙ ap (λ (a : ℕ). number_from a (take n (drop j s))) (zero-add (get_or s i 0))
 
--- four bytes are two and two, read and written
-pub number_halves :
-    (i : ℕ) (s : List ℕ) → i + 4 ≤ length s → number_at i 4 s ≡ number_at i 2 s * 65536 + number_at (i + 2) 2 s
-unfolding number_from
-number_halves i s h =
-    rw (
-      add-two,
-      drop-cons s i 0 (omega arith),
-      drop-cons s (suc i) 0 (omega arith),
-      drop-cons s (suc (suc i)) 0 (omega arith),
-      drop-cons s (suc (suc (suc i))) 0 (omega arith),
-    )
-    (omega arith)
+-- the bytes that std's `to_be_bytes` gives
+byte_down : (i v : ℕ) → byte_at (suc i) v ≡ byte_at i (v / 256)
+byte_down zero v = refl
+byte_down (suc i) v = rw (div-div-eq-div-mul v 256 (256 ^ suc i), ← (pow-succ' 256 (suc i)))
 
-pub bytes_halves : (v : ℕ) → bytes 4 v ≡ bytes 2 (v / 65536) ++ bytes 2 (v % 65536)
+low_last : (n v : ℕ) → bytes_high_first (suc n) v ≡ bytes_high_first n (v / 256) ++ (v % 256 ∷ [])
+low_last zero v = refl
+low_last (suc n) v = rw (byte_down n v) (ap (λ (s : List ℕ). byte_at n (v / 256) ∷ s) (low_last n v))
+
+pub bytes_of_std : (n v : ℕ) → bytes_high_first n v ≡ bytes n v
 unfolding bytes
-bytes_halves v =
-    let high : v % 65536 / 256 % 256 ≡ v / 256 % 256 = omega arith in
-    let low : v % 65536 % 256 ≡ v % 256 = omega arith in
-    rw (div-div-eq-div-mul v 256 256, high, low)
+bytes_of_std zero v = refl
+bytes_of_std (suc n) v = low_last n v ∙ rw (bytes_of_std n (v / 256))
 
 -- b is the first n bytes of s: the number of the k bytes after them writes these
 pub bytes_next :

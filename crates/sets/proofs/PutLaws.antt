@@ -1,13 +1,14 @@
--- Laws of bytes that are put into a buffer one after another: numbers, any bytes, and the fields of a list's elements.
-use Prim.Native.Nat.{ℕ, suc, ◌+◌, ◌*◌, ◌≤◌, ◌<◌}
+-- Laws of bytes that are put into a buffer, a part at once or one after another: numbers, any bytes, and the fields of a list's elements.
+use Prim.Native.Nat.{ℕ, suc, ◌+◌, ◌-◌, ◌*◌, ◌≤◌, ◌<◌}
 use mathlib.Core.Path.{◌≡◌, refl, ap, ◌∙◌}
 use mathlib.Core.Bool.{true}
 use mathlib.Core.List.{List, [], ◌∷◌, ◌++◌, append_assoc, append-nil}
 use native.Mathlib.Nat.{add-zero, add-suc, suc-add, mul-zero, mul-one, mul-add}
 use native.Mathlib.Numerals.{add-one}
 use native.Mathlib.Omega.{arith}
+use borrow.Rule.Slice.PartMut.{put_mid}
 use lib.ListN.{length, take, get_or, set, length-append}
-use lib.Seq.{sets, length-sets, take-suc}
+use lib.Seq.{sets, sets-eq, length-sets, take-suc, drop-drop}
 use Rattle.sets.specs.Quantifiers.{all_in}
 use Rattle.sets.specs.Numbers.{bytes, is_bytes}
 use Rattle.sets.proofs.Lists.{all_append}
@@ -19,6 +20,13 @@ sets_append :
     sets (sets l i vs) (i + length vs) ws ≡ sets l i (vs ++ ws)
 sets_append l i [] ws = rw add-zero
 sets_append l i (v ∷ vs) ws = rw (add-suc, ← (suc-add i (length vs))) (sets_append (set l i v) (suc i) vs ws)
+
+-- the bytes that are copied into a part of s
+pub put_part :
+    (s v : List ℕ) (i e : ℕ) → e ≡ i + length v → e ≤ length s → put_mid i (e - i) s v ≡ sets s i v
+put_part s v i e long fits =
+    let size : e - i ≡ length v = omega arith in
+    rw (sets-eq v s i (omega arith), size, drop-drop (length v) i s, append_assoc (take i s) v _)
 
 -- t is s with the n bytes b from place i on
 pub record Put (s : List ℕ) (i : ℕ) (b : List ℕ) (n : ℕ) (t : List ℕ) : Type 0 where

@@ -43,6 +43,13 @@ module _ (p : ℕ → Bool) where
   unfolding set_of
   set_none n none = set_cut 0 n (omega arith) (λ k _ _. none k)
 
+-- a set of numbers below k with k in it, as a shift in a word of w bits
+pub bit_more :
+    (w set k : ℕ) → set < 2 ^ k → k < w → (set + 1 * 2 ^ k % 2 ^ w < 2 ^ (k + 1)) × (set + 1 * 2 ^ k % 2 ^ w < 2 ^ w)
+bit_more w set k h l =
+    let next : set + 1 * 2 ^ k % 2 ^ w < 2 ^ (k + 1) = rw (shl_exact {a = 1} 1 k w (omega arith) (omega arith), add-one k) (omega arith) in
+    (next, lt_of_lt_of_le next (pow_mono {j = w} (omega arith)))
+
 -- A set that is built number by number: before the turn of k it has those of the numbers below k that pass p.
 pub record Built (p : ℕ → Bool) (n set k : ℕ) : Type 0 where
   pub in_range : k ≤ n

@@ -1,4 +1,4 @@
-// Sets as bits of a number, sets of records as two words, bounds of counts, and big-endian numbers.
+// Sets as bits of a number, sets of records as two words, what is kept of a list, and big-endian numbers.
 #![tactic(auto)]
 
 pub mod bits;

@@ -1,4 +1,5 @@
-// Numbers written as bytes, high byte first, read from a slice and written into one.
+// Numbers written as bytes, high byte first, read from a slice and written into one. A place stands beside the bytes: a promise says which
+// bytes of the whole change, and a slice from the place on would say it no plainer; `get` has its place as `put` has.
 ghost use Rattle.std.specs.Prelude.{◌≡◌, ◌+◌, ◌<◌, ◌≤◌, ℕ, length};
 ghost use Rattle.std.proofs.lemmas.List.Edits.{sets};
 ghost use Rattle.sets.specs.Numbers.{number_at, bytes};
@@ -40,12 +41,11 @@ impl BigEndian for u16 {
     ghost value = { λ v. v };
 
     fn get(s: &[u8], at: usize) -> Self {
-        u16::from(s[at]) * 256 + u16::from(s[at + 1])
+        u16::from_be_bytes([s[at], s[at + 1]])
     }
 
     fn put(self, s: &mut [u8], at: usize) {
-        s[at] = (self / 256) as u8;
-        s[at + 1] = (self % 256) as u8;
+        s[at..at + 2].copy_from_slice(&self.to_be_bytes());
     }
 }
 
@@ -55,11 +55,10 @@ impl BigEndian for u32 {
     ghost value = { λ v. v };
 
     fn get(s: &[u8], at: usize) -> Self {
-        u32::from(u16::get(s, at)) * 65536 + u32::from(u16::get(s, at + 2))
+        u32::from_be_bytes([s[at], s[at + 1], s[at + 2], s[at + 3]])
     }
 
     fn put(self, s: &mut [u8], at: usize) {
-        ((self / 65536) as u16).put(s, at);
-        ((self % 65536) as u16).put(s, at + 2);
+        s[at..at + 4].copy_from_slice(&self.to_be_bytes());
     }
 }

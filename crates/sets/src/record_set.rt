@@ -35,7 +35,7 @@ impl RecordSet {
         self
     }
 
-    // The set with x in it where b holds.
+    // The set with x in it where b holds: one call either way, so that a caller's loop has one path.
     pub fn with_where(self, x: usize, b: bool) -> RecordSet
         ensures { (k : ℕ) → k < 128 → contains result k ≡ b && nat_eq x k || contains self k }
     {

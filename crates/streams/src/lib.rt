@@ -79,7 +79,7 @@ pub fn fill<E: Eprint, R: Read>(rt: &E, input: &mut R, buf: &mut [u8]) -> Result
     ensures bytes { FillsFrom result (R.remaining input.old) (R.remaining input.new) buf.new }
 {
     let mut done = 0;
-    // a step is as long as what a read gave
+    // a step is as long as what a read gave; std's `read_exact` does not say what it read before the end
     while done < buf.len() {
         let n = reported(rt, "standard input", input.read(&mut buf[done..]))?;
         if n == 0 {
@@ -95,7 +95,7 @@ pub fn put<E: Eprint, W: Write>(rt: &E, output: &mut W, bytes: &[u8]) -> Result<
     ensures { Puts result (W.contents output.old) (W.contents output.new) bytes.now }
 {
     let mut at = 0;
-    // a step is as long as what a write took
+    // a step is as long as what a write took; std's `write_all` tries an interrupted write again
     while at < bytes.len() {
         let n = reported(rt, "standard output", output.write(&bytes[at..]))?;
         if n == 0 {

@@ -1,17 +1,20 @@
--- The fewest digits that hold a number are its decimal text. Digits that are stored from the last on.
+-- The fewest digits that hold a number are its decimal text, which is the text that std gives for it.
 use Prim.Native.Nat.{ℕ, zero, suc, ◌+◌, ◌-◌, ◌/◌, ◌%◌, ◌^◌, ◌≤◌, ◌<◌}
-use mathlib.Core.Path.{◌≡◌, refl, ap}
-use mathlib.Core.List.{List, [], ◌∷◌, ◌++◌}
-use native.Mathlib.Nat.{pow-suc, one-le-pow, mod-eq_of_lt}
+use mathlib.Core.Path.{◌≡◌, refl, sym, ap, ◌∙◌}
+use mathlib.Core.List.{List, [], ◌∷◌, ◌++◌, append_assoc}
+use native.Mathlib.Nat.{pow-suc, one-le-pow}
 use native.Mathlib.Numerals.{add-one, unary_clauses}
 use native.Mathlib.Omega.{arith}
-use borrow.Author.Tests.{le-leb, lt-leb, lt-ltb}
+use borrow.Author.Tests.{le-leb, lt-leb}
 use lib.Dec.{lit<}
-use lib.ListN.{length, set, length-append}
-use lib.Seq.{sets}
+use lib.ListN.{length, take, drop, length-append}
+use borrow.Author.Rules.{rules}
+use Rattle.std.proofs.lemmas.List.{take-append-drop, length-take-le}
+use Rattle.std.proofs.Math.Seq.{take-append_seam}
 use Rattle.io.specs.Digits.{last_digits, hex_digit_ascii, IsDigitCount}
+use Rattle.std.specs.Fmt.{decimal as std_decimal}
+use Rattle.std.proofs.lemmas.Fmt.{AppendsLastDigit, decimal_from_appends, length-decimal-le_succ}
 use Rattle.text.specs.Text.{decimal_by, decimal}
-use Rattle.text.proofs.PutLaws.{sets_last}
 
 by_fuel :
     (k f n : ℕ) → n < 10 ^ suc k → (0 < k → 10 ^ k ≤ n) → n < f → last_digits 10 (suc k) n ≡ decimal_by f n
@@ -37,18 +40,28 @@ pub digits_long : (b k n : ℕ) → length (last_digits b k n) ≡ k
 digits_long b zero n = refl
 digits_long b (suc k) n = rw (length-append, digits_long b k (n / b), add-one)
 
--- the last of i digits, and then those of the number without it
-pub last_digit :
-    (s : List ℕ) (at i n : ℕ) → 0 < i → n < 10 ^ i →
-    (n / 10 < 10 ^ (i - 1))
-    × (sets (set s (at + (i - 1)) (48 + n % 10)) at (last_digits 10 (i - 1) (n / 10)) ≡ sets s at (last_digits 10 i n))
-last_digit s at zero n h small = absurd (omega arith)
-last_digit s at (suc i) n h small = (
-  rw one_less (omega (arith, pow-suc 10 i)),
-  rw (one_less, lt-ltb (n % 10) 10 (omega arith))
-      (rw digits_long at (sets_last (last_digits 10 i (n / 10)) s at (48 + n % 10))),
-)
+-- std's text of a number is the same, and as long
+appends : AppendsLastDigit decimal_by
+unfolding decimal_by
+appends = record {
+  one = λ k n h. rw (lt-leb 10 n (omega (arith, h))) (ap (λ (d : ℕ). d ∷ []) (search rules));
+  more = λ k n h. rw (le-leb 10 n h) (search rules);
+}
 
--- the only digit
-pub only_digit : (s : List ℕ) (at n : ℕ) → n < 10 → set s at (48 + n) ≡ sets s at (last_digits 10 1 n)
-only_digit s at n h = rw (mod-eq_of_lt {n = n} {m = 10} h, lt-ltb n 10 h)
+pub std_text : (n : ℕ) → n < 2 ^ 64 → decimal n ≡ std_decimal n
+std_text n h = decimal_from_appends decimal_by appends (suc n) n h (omega (arith, length-decimal-le_succ n h))
+
+pub std_long : (n k : ℕ) → n < 2 ^ 64 → IsDigitCount 10 1 n k → length (std_decimal n) ≡ k
+std_long n k h e = rw (← std_text n h, ← decimal_of n k e) (digits_long 10 k n)
+
+-- digits that were written to end at k + length d
+pub ends_with :
+    (s t d b : List ℕ) (k : ℕ) → take k t ≡ take k s → drop k t ≡ d ++ b → k ≤ length t →
+    take (k + length d) t ≡ take k s ++ d
+ends_with s t d b k front back h =
+    let u = take k s in
+    let whole : t ≡ (u ++ d) ++ b =
+    sym (take-append-drop k t) ∙ rw (front, back, append_assoc) refl in
+    let long : length (u ++ d) ≡ k + length d =
+    length-append u d ∙ ap (λ (n : ℕ). n + length d) (sym (ap length front) ∙ length-take-le k t h) in
+    rw (← long, whole) (take-append_seam (u ++ d) b)

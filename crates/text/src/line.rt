@@ -1,46 +1,47 @@
 // A line: numbers, then bytes where there are any, or the word `malformed`.
-ghost use Rattle.std.specs.Prelude.{◌≡◌, ◌+◌, ◌*◌, ◌≤◌, length};
-ghost use Rattle.std.proofs.lemmas.List.Edits.{sets};
+ghost use Rattle.std.specs.Prelude.{◌≡◌, ◌+◌, ◌*◌, ◌++◌, ◌≤◌, length};
 ghost use Rattle.text.specs.Text.{bytes_text, line_body, line_text};
-ghost use Rattle.text.specs.Puts.{Puts, StartsWith};
 
-// A blank and the bytes, where there are any.
-fn put_rest(out: &mut [u8], at: usize, bytes: &[u8]) -> usize
-    requires { at + 1 + 2 * length bytes.now ≤ length out.old }
-    ensures puts { Puts out.old at (bytes_text bytes.now) out.new result }
-    ensures upper_bound { result ≤ at + 1 + 2 * length bytes.now }
-{
-    if bytes.is_empty() {
-        return at;
+use crate::Text;
+
+impl<const N: usize> Text<N> {
+    // A blank and the bytes, where there are any.
+    #[tactic(auto, unfolding(crate::specs::Text::bytes_text))]
+    fn push_rest(&mut self, bytes: &[u8])
+        requires { length self.old + 1 + 2 * length bytes.now ≤ N }
+        ensures text { self.new ≡ self.old ++ bytes_text bytes.now }
+        ensures growth { length self.new ≤ length self.old + 1 + 2 * length bytes.now }
+    {
+        if bytes.is_empty() {
+            return;
+        }
+        self.push_bytes(b" ");
+        self.push_hex(bytes);
     }
-    out[at] = b' ';
-    crate::hex::put_hex(out, at + 1, bytes)
-}
 
-// What stands in a line.
-fn put_body(out: &mut [u8], numbers: &[u64], bytes: &[u8]) -> usize
-    requires at_most_four { length numbers.now ≤ 4 }
-    requires room { 84 + 2 * length bytes.now ≤ length out.old }
-    ensures puts { Puts out.old 0 (line_body numbers.now bytes.now) out.new result }
-    ensures upper_bound { result ≤ 84 + 2 * length bytes.now }
-{
-    if numbers.is_empty() {
-        return crate::copy::put_bytes(out, 0, b"malformed");
+    // What stands in a line.
+    fn push_body(&mut self, numbers: &[u64], bytes: &[u8])
+        requires at_most_four { length numbers.now ≤ 4 }
+        requires room { length self.old + 84 + 2 * length bytes.now ≤ N }
+        ensures text { self.new ≡ self.old ++ line_body numbers.now bytes.now }
+        ensures growth { length self.new ≤ length self.old + 84 + 2 * length bytes.now }
+    {
+        if numbers.is_empty() {
+            self.push_bytes(b"malformed");
+            return;
+        }
+        self.push_numbers(numbers);
+        self.push_rest(bytes);
     }
-    let at = crate::numbers::put_numbers(out, numbers);
-    put_rest(out, at, bytes)
-}
 
-// The line of at most four numbers and the bytes, at the start of the buffer; its length. Four numbers of 20 digits, three blanks
-// between and one before the bytes, two digits a byte and the line end have room.
-pub fn put_line(out: &mut [u8], numbers: &[u64], bytes: &[u8]) -> usize
-    requires at_most_four { length numbers.now ≤ 4 }
-    requires room { 85 + 2 * length bytes.now ≤ length out.old }
-    ensures out_after { out.new ≡ sets out.old 0 (line_text numbers.now bytes.now) }
-    ensures value { result ≡ length (line_text numbers.now bytes.now) }
-    ensures starts_with { StartsWith out.new result (line_text numbers.now bytes.now) }
-{
-    let at = put_body(out, numbers, bytes);
-    out[at] = b'\n';
-    at + 1
+    // Appends the line of at most four numbers and the bytes. Four numbers of 20 digits, three blanks between and one before the bytes,
+    // two digits a byte and the line end have room.
+    pub fn push_line(&mut self, numbers: &[u64], bytes: &[u8])
+        requires at_most_four { length numbers.now ≤ 4 }
+        requires room { length self.old + 85 + 2 * length bytes.now ≤ N }
+        ensures { self.new ≡ self.old ++ line_text numbers.now bytes.now }
+    {
+        self.push_body(numbers, bytes);
+        self.push_bytes(b"\n");
+    }
 }

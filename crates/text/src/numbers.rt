@@ -1,31 +1,34 @@
 // The numbers of a line.
-ghost use Rattle.std.specs.Prelude.{◌∷◌, ◌+◌, ◌≤◌, length};
+ghost use Rattle.std.specs.Prelude.{◌≡◌, ◌∷◌, ◌+◌, ◌++◌, ◌≤◌, length};
 ghost use Rattle.text.specs.Text.{decimal, blank, numbers_text};
-ghost use Rattle.text.specs.Puts.{Puts};
 
-// A number after another: a blank and its digits.
-fn put_next(out: &mut [u8], at: usize, n: u64) -> usize
-    requires { at + 21 ≤ length out.old }
-    ensures puts { Puts out.old at (blank ∷ decimal n) out.new result }
-    ensures upper_bound { result ≤ at + 21 }
-{
-    out[at] = b' ';
-    crate::decimal::put_decimal(out, at + 1, n)
-}
+use crate::Text;
 
-// At most four numbers at the start of the buffer; the place after them. Four numbers of 20 digits and three blanks have room.
-pub fn put_numbers(out: &mut [u8], numbers: &[u64]) -> usize
-    requires at_most_four { length numbers.now ≤ 4 }
-    requires room { 83 ≤ length out.old }
-    ensures puts { Puts out.old 0 (numbers_text numbers.now) out.new result }
-    ensures upper_bound { result ≤ 83 }
-{
-    let [first, rest @ ..] = numbers else {
-        return 0;
-    };
-    let mut end = crate::decimal::put_decimal(out, 0, *first);
-    for n in rest {
-        end = put_next(out, end, *n);
+impl<const N: usize> Text<N> {
+    // A number after another: a blank and its digits.
+    fn push_next(&mut self, n: u64)
+        requires { length self.old + 21 ≤ N }
+        ensures text { self.new ≡ self.old ++ blank ∷ decimal n }
+        ensures growth { length self.new ≤ length self.old + 21 }
+    {
+        self.push_bytes(b" ");
+        self.push_decimal(n);
     }
-    end
+
+    // Appends at most four numbers, one blank between: no line has more, and so its room is a number. Four numbers of 20 digits and three
+    // blanks have room.
+    pub fn push_numbers(&mut self, numbers: &[u64])
+        requires at_most_four { length numbers.now ≤ 4 }
+        requires room { length self.old + 83 ≤ N }
+        ensures text { self.new ≡ self.old ++ numbers_text numbers.now }
+        ensures growth { length self.new ≤ length self.old + 83 }
+    {
+        let [first, rest @ ..] = numbers else {
+            return;
+        };
+        self.push_decimal(*first);
+        for n in rest {
+            self.push_next(*n);
+        }
+    }
 }

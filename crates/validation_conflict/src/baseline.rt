@@ -1,4 +1,5 @@
-// The baseline: the patient reads every record, and an author their own.
+// The baseline: the patient reads every record, and an author their own. The parts of a ledger are handed on one by one: the ledger is of a
+// crate above.
 ghost use Rattle.std.specs.Prelude.{◌≡◌, ◌<◌, length};
 ghost use Rattle.sets.specs.Quantifiers.{some_of};
 ghost use Rattle.register.specs.Register.{contents};

@@ -1,4 +1,5 @@
-// Conflict: two directives of opposite effect that match a request in common.
+// Conflict: two directives of opposite effect that match a request in common. The parts of a ledger are handed on one by one: the ledger is
+// of a crate above.
 ghost use Rattle.std.specs.Prelude.{◌≡◌, List, ◌<◌, ◌≤◌, length};
 ghost use Rattle.sets.specs.Quantifiers.{keep};
 ghost use Rattle.register.specs.declared.Record.{Record as Held};
@@ -48,9 +49,8 @@ pub fn lowest_conflict(parents: &[u8], clock: u32, a: &Active, list: &ActiveList
     ensures searched { (rs : List Held) → Given rs a.now list.now → result ≡ best_of (keep (conflict_found (holding parents.now rs) clock a.now.directive) (directives_of list.now)) }
     ensures meant { (rs : List Held) → Given rs a.now list.now → 0 < length parents.now → Fit (holding parents.now rs) a.now.directive → AllFit (holding parents.now rs) (directives_of list.now) → result ≡ best_of (keep (conflict (holding parents.now rs) clock a.now.directive) (directives_of list.now)) }
 {
-    let mut best = None;
-    for e in list.as_slice() {
-        best = lowest::lower_where(best, &e.directive, conflicts(parents, clock, a, e));
-    }
-    best
+    lowest::lowest_met(
+        list.as_slice(),
+        |e| conflicts(parents, clock, a, e).then_some(Best::of(&e.directive)),
+    )
 }

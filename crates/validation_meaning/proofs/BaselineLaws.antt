@@ -31,7 +31,7 @@ pub record Broken (c : Contents) (patient clock : ℕ) (d : Directive) : Type 0 
   pub denied : Request
   pub in_range : InRange c clock denied
   pub matched : matches c d denied ≡ true
-  pub baseline : ((record_at c.records denied.«record»).author ≡ person) ⊎ (patient ≡ person)
+  pub baseline : ((record_at c.records denied.query.«record»).author ≡ person) ⊎ (patient ≡ person)
 
 -- what the search finds of the person n whom a deny names, one dimension at a time
 pub record FoundFor (c : Contents) (patient clock : ℕ) (d : Directive) (n : ℕ) : Type 0 where
@@ -104,15 +104,15 @@ module _ (c : Contents) (patient : ℕ) where
     baseline_read =
         named_deny (breaks_for c patient clock d) (λ n. refl) λ n deny named t.
         let (q, h, both) = (some_request_lem c clock).read _ t in
-        let (of_person, own) = and_both _ (has_baseline c patient n q.«record») both in
+        let (of_person, own) = and_both _ (has_baseline c patient n q.query.«record») both in
         record {
           deny = deny;
           person = n;
           named = named;
           denied = q;
           in_range = h;
-          matched = (and_both _ (eqb q.person n) of_person).0;
-          baseline = has_baseline_read n q.«record» own;
+          matched = (and_both _ (eqb q.query.requester.person n) of_person).0;
+          baseline = has_baseline_read n q.query.«record» own;
         }
 
     pub baseline_make : Broken c patient clock d → breaks_baseline c patient clock d ≡ true
@@ -124,9 +124,9 @@ module _ (c : Contents) (patient : ℕ) where
         ∙ (some_request_lem c clock).make _ q h.in_range
         (rw (
           h.matched,
-          eq-eqb q.person h.person (matches_named c d q h.person h.named h.matched),
+          eq-eqb q.query.requester.person h.person (matches_named c d q h.person h.named h.matched),
         )
-        (has_baseline_make h.person q.«record» h.baseline)))
+        (has_baseline_make h.person q.query.«record» h.baseline)))
 
     -- "A deny on a role breaks nothing"
     pub baseline_role : (n : ℕ) → d.subject ≡ Role n → breaks_baseline c patient clock d ≡ false
@@ -176,9 +176,9 @@ module _ (c : Contents) (patient : ℕ) where
         (ap (breaks_for_found c patient clock d) h.named
         ∙ found_for_make c patient clock d h.person
         (record {
-          own = (some_of_lem _ _).make _ q.«record» (asked_below c.records i.record_in, a.selected) (has_baseline_make h.person q.«record» h.baseline);
-          origin = (some_below_lem origins).make _ q.origin i.origin_in a.origin;
-          purpose = (some_below_lem purposes).make _ q.purpose i.purpose_in a.purpose;
+          own = (some_of_lem _ _).make _ q.query.«record» (asked_below c.records i.record_in, a.selected) (has_baseline_make h.person q.query.«record» h.baseline);
+          origin = (some_below_lem origins).make _ q.query.requester.origin i.origin_in a.origin;
+          purpose = (some_below_lem purposes).make _ q.query.requester.purpose i.purpose_in a.purpose;
           span = omega arith;
         }))
 

@@ -184,9 +184,9 @@ module _ (c : Contents) (clock : ℕ) where
       let b = matches_read c e q h.by_second in
       record {
         opposite = opposite;
-        subject = subjects_meet_lem d.subject e.subject q.person q.role i.role_in a.subject b.subject;
-        origin = (some_of_lem _ _).make _ q.origin (i.origin_in, a.origin) b.origin;
-        selected = (some_of_lem _ _).make _ q.«record» (asked_below c.records i.record_in, a.selected) b.selected;
-        purpose = (some_of_lem _ _).make _ q.purpose (i.purpose_in, a.purpose) b.purpose;
+        subject = subjects_meet_lem d.subject e.subject q.query.requester.person q.query.requester.role i.role_in a.subject b.subject;
+        origin = (some_of_lem _ _).make _ q.query.requester.origin (i.origin_in, a.origin) b.origin;
+        selected = (some_of_lem _ _).make _ q.query.«record» (asked_below c.records i.record_in, a.selected) b.selected;
+        purpose = (some_of_lem _ _).make _ q.query.requester.purpose (i.purpose_in, a.purpose) b.purpose;
         span = omega arith;
       }

@@ -187,14 +187,14 @@ module _ (c : Contents) where
         let a = matches_read c d q t in
         let (e, i, met) =
         (some_list es).read _
-        (point_covered q.«record» q.origin q.purpose q.role q.minute
+        (point_covered q.query.«record» q.query.requester.origin q.query.requester.purpose q.query.requester.role q.minute
         (asked_below c.records h.record_in, a.selected)
         (h.origin_in, a.origin)
         (h.purpose_in, a.purpose)
-        (h.role_in, stands_self d.subject q.person q.role a.subject)
+        (h.role_in, stands_self d.subject q.query.requester.person q.query.requester.role a.subject)
         (omega arith)
         a.not_over)
         in
         let (passes, subject, rest) = meets_read ok d _ _ _ _ e _ met in
         covered_make c ok es q e i passes
-        (rw (stands_at d.subject e.subject q.person q.role a.subject subject, rest))
+        (rw (stands_at d.subject e.subject q.query.requester.person q.query.requester.role a.subject subject, rest))

@@ -39,8 +39,8 @@ module _ (rs : List Record) where
 module _ (c : Contents) (clock : ℕ) where
   -- every place that shows a request to be in range does so by this law
   pub in_range_of :
-      (q : Request) → q.person < persons → q.role < length c.roles → q.origin < origins →
-      Asked c.records q.«record» → q.purpose < purposes → q.minute < minutes → clock ≤ q.minute → InRange c clock q
+      (q : Request) → q.query.requester.person < persons → q.query.requester.role < length c.roles → q.query.requester.origin < origins →
+      Asked c.records q.query.«record» → q.query.requester.purpose < purposes → q.minute < minutes → clock ≤ q.minute → InRange c clock q
   in_range_of q person role origin asked purpose minute now =
       record {
         person_in = person;
@@ -66,11 +66,11 @@ module _ (c : Contents) (clock : ℕ) where
       ((every_asked c.records).read _
       ((every_below origins).read _
       ((every_below (length c.roles)).read _
-      ((every_below persons).read _ e q.person h.person_in)
-      q.role h.role_in)
-      q.origin h.origin_in)
-      q.«record» h.record_in)
-      q.purpose h.purpose_in)
+      ((every_below persons).read _ e q.query.requester.person h.person_in)
+      q.query.requester.role h.role_in)
+      q.query.requester.origin h.origin_in)
+      q.query.«record» h.record_in)
+      q.query.requester.purpose h.purpose_in)
       q.minute (h.minute_in, le-leb _ _ h.not_past)
 
   every_request_make :
@@ -101,11 +101,11 @@ module _ (c : Contents) (clock : ℕ) where
       (f : Request → Bool) (q : Request) → InRange c clock q → f q ≡ true → some_request c clock f ≡ true
   unfolding some_request
   some_request_make f q h e =
-      (some_below_lem persons).make _ q.person h.person_in
-      ((some_below_lem (length c.roles)).make _ q.role h.role_in
-      ((some_below_lem origins).make _ q.origin h.origin_in
-      ((some_asked c.records).make _ q.«record» h.record_in
-      ((some_below_lem purposes).make _ q.purpose h.purpose_in
+      (some_below_lem persons).make _ q.query.requester.person h.person_in
+      ((some_below_lem (length c.roles)).make _ q.query.requester.role h.role_in
+      ((some_below_lem origins).make _ q.query.requester.origin h.origin_in
+      ((some_asked c.records).make _ q.query.«record» h.record_in
+      ((some_below_lem purposes).make _ q.query.requester.purpose h.purpose_in
       ((some_of_lem minutes (leb clock)).make _ q.minute (h.minute_in, le-leb _ _ h.not_past) e)))))
 
   pub every_request_lem : Every Request (InRange c clock) (every_request c clock)

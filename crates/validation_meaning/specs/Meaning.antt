@@ -26,7 +26,7 @@ has_baseline c patient n x = nat_eq (record_at c.records x).author n || nat_eq p
 -- any request if that person is the patient. A deny on a role breaks nothing, as the baseline is decided first."
 abbrev pub breaks_for : Contents → ℕ → ℕ → Directive → Subject → Bool
 breaks_for c patient clock d (Person n) =
-    some_request c clock (λ q. matches c d q && nat_eq q.person n && has_baseline c patient n q.«record»)
+    some_request c clock (λ q. matches c d q && nat_eq q.query.requester.person n && has_baseline c patient n q.query.«record»)
 breaks_for c patient clock d (Role n) = false
 
 unfoldable pub breaks_baseline : Contents → ℕ → ℕ → Directive → Bool

@@ -20,7 +20,15 @@ minutes = 2 ^ 32
 
 -- the request of these six, in the order of the quantifiers
 abbrev pub request : ℕ → ℕ → ℕ → ℕ → ℕ → ℕ → Request
-request p r o x u m = record { person = p; role = r; origin = o; «record» = x; purpose = u; minute = m }
+request p r o x u m =
+    record {
+      query =
+          record {
+            requester = record { person = p; role = r; origin = o; purpose = u };
+            «record» = x;
+          };
+      minute = m;
+    }
 
 -- every request over the register c from the minute `clock` on
 unfoldable pub every_request : Contents → ℕ → (Request → Bool) → Bool
@@ -48,10 +56,10 @@ Asked rs x = x < length rs
 
 -- the requests that `every_request` and `some_request` range over
 pub record InRange (c : Contents) (clock : ℕ) (q : Request) : Type 0 where
-  pub person_in : q.person < persons
-  pub role_in : q.role < length c.roles
-  pub origin_in : q.origin < origins
-  pub record_in : Asked c.records q.«record»
-  pub purpose_in : q.purpose < purposes
+  pub person_in : q.query.requester.person < persons
+  pub role_in : q.query.requester.role < length c.roles
+  pub origin_in : q.query.requester.origin < origins
+  pub record_in : Asked c.records q.query.«record»
+  pub purpose_in : q.query.requester.purpose < purposes
   pub minute_in : q.minute < minutes
   pub not_past : clock ≤ q.minute

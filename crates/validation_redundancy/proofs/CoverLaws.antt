@@ -1,5 +1,5 @@
 -- Laws of the search for an uncovered request: a level's loop, turn by turn, and that a mask with more directives leaves no more uncovered.
-use Prim.Native.Nat.{ℕ, zero, suc, ◌+◌, ◌%◌, ◌^◌, ◌<◌, ◌≤◌}
+use Prim.Native.Nat.{ℕ, zero, suc, ◌+◌, ◌^◌, ◌<◌, ◌≤◌}
 use mathlib.Core.Path.{◌≡◌, refl, sym, ap, ◌∙◌}
 use mathlib.Core.Bool.{Bool, true, false, ◌&&◌, not}
 use mathlib.Core.List.{List, [], ◌∷◌}
@@ -186,10 +186,3 @@ unfolding minutes_covered
 minutes_not masks e {k} h none =
     never_true (minutes_covered masks e)
     (λ t. both_ways (all_at (λ m. not (eqb (bit_and e m) 0)) masks k h t) (ap not (eq-eqb (bit_and e (get_or masks k 0)) 0 none)))
-
--- the code's test of a bit
-pub no_bit : (a : ℕ) → a % 2 ≡ 0 → eqb (a % 2) 1 ≡ false
-no_bit a e = ne_eqb (a % 2) 1 (λ h. omega arith)
-
-pub a_bit : (a : ℕ) → (a % 2 ≡ 0 → ⊥) → eqb (a % 2) 1 ≡ true
-a_bit a e = eq-eqb (a % 2) 1 (omega arith)

@@ -10,14 +10,14 @@ use borrow.Author.Tests.{lt-ltb, le-ltb, ltb-true}
 use lib.ListN.{length, get_or, length-take}
 use lib.Dec.{eqb, ltb}
 use lib.Bits.{bit_and}
-use Rattle.sets.specs.Quantifiers.{implies, all_of, all_in, some_in, keep}
+use Rattle.sets.specs.Quantifiers.{pick, implies, all_of, all_in, some_in, keep}
 use Rattle.sets.specs.Bits.{bit, set_of}
 use Rattle.sets.specs.RecordSets.{contains}
 use Rattle.sets.proofs.Quantifiers.{same_test, either_way, and_both, every_of}
 use Rattle.sets.proofs.Lists.{some_map, some_alike}
 use Rattle.sets.proofs.BitLaws.{set_bit}
 use Rattle.register.specs.declared.Record.{Record}
-use Rattle.register.specs.Register.{holding}
+use Rattle.register.specs.Register.{record_places, holding}
 use Rattle.directive.specs.declared.Directive.{Directive}
 use Rattle.directive.specs.Selection.{selects}
 use Rattle.directive.specs.Matching.{in_minutes, applies_to}
@@ -30,7 +30,7 @@ use Rattle.validation_redundancy.specs.declared.tables.Tables.{Tables}
 use Rattle.validation_meaning.specs.Meaning.{same_effect}
 use Rattle.validation_meaning.specs.Search.{from_origin, for_purpose, start, stands_for, covered_at, included_found, redundant_found}
 use Rattle.validation_conflict.specs.Given.{Given}
-use Rattle.validation_redundancy.specs.Masks.{mask_where, record_mask, minute_mask, boundaries_of, masks_of, minutes_covered, level_covered, all_covered}
+use Rattle.validation_redundancy.specs.Masks.{mask_where, minute_mask, boundaries_of, masks_of, minutes_covered, level_covered, origins_covered, all_covered}
 use Rattle.validation_redundancy.proofs.MaskLaws.{five_share}
 
 -- the values below n that pass f, where those are the values below m that pass g
@@ -68,9 +68,9 @@ spanned s p q f same (m ∷ ms) =
     (λ (e : s m ≡ false). rw (e, spanned s p q f same ms))
     (either_way (s m))
 
--- the table has the masks of the numbers in the set
+-- the table has the masks of the numbers in the set, and 0 for the others
 abbrev TableOf : ℕ → (ℕ → Active → Bool) → List Active → List ℕ → Type 0
-TableOf set test l table = (k : ℕ) → k < 16 → bit k set ≡ true → get_or table k 0 ≡ mask_where (test k) l
+TableOf set test l table = (k : ℕ) → k < 16 → get_or table k 0 ≡ pick (bit k set) (mask_where (test k) l) 0
 
 -- what the tables of the draft d beside the entries l are, from the clock on
 pub record TablesOf (roles : List ℕ) (clock : ℕ) (d : Directive) (l : List Active) (t : Tables) : Type 0 where
@@ -88,36 +88,40 @@ module _ (roles : List ℕ) (rs : List Record) (clock : ℕ) (a : Active) (list 
   pub few : length (entries_of list) ≤ 32
   few = simp length-take (omega (arith, given.others.few))
 
-  -- at one value of each dimension that the draft has, the masks share a bit where a directive meets the request
+  -- the entries that pass a test of their directive and select record x
+  abbrev mask_of : (Directive → Bool) → ℕ → ℕ
+  mask_of ok x = mask_where (λ b. ok b.directive && contains b.selected x) (entries_of list)
+
+  -- at one value of each dimension that the draft has, the masks share a bit where a directive that passes the test meets the request
   masks_meet :
-      (x o u r m : ℕ) → (o < 16) × (from_origin a.directive o ≡ true) → (u < 16) × (for_purpose a.directive u ≡ true) →
+      (ok : Directive → Bool) (x o u r m : ℕ) → (o < 16) × (from_origin a.directive o ≡ true) → (u < 16) × (for_purpose a.directive u ≡ true) →
       (r < 16) × (bit r t.roles ≡ true) →
       not
       (eqb
       (bit_and
       (bit_and
-      (bit_and (bit_and (record_mask (entries_of list) a.directive.permit x) (get_or t.by_origin o 0)) (get_or t.by_purpose u 0))
+      (bit_and (bit_and (mask_of ok x) (get_or t.by_origin o 0)) (get_or t.by_purpose u 0))
       (get_or t.by_role r 0))
       (minute_mask (entries_of list) m)) 0)
-      ≡ covered_at (holding roles rs) (same_effect a.directive) a.directive (directives_of list) x o u r m
+      ≡ covered_at (holding roles rs) ok a.directive (directives_of list) x o u r m
   unfolding applies_to
-  masks_meet x o u r m ho hu hr =
-      let by_record : Active → Bool = λ b. beq a.directive.permit b.directive.permit && contains b.selected x in
+  masks_meet ok x o u r m ho hu hr =
+      let by_record : Active → Bool = λ b. ok b.directive && contains b.selected x in
       let by_origin : Active → Bool = λ b. bit o b.directive.subject_origins in
       let by_purpose : Active → Bool = λ b. bit u b.directive.purposes in
       let by_role : Active → Bool = λ b. stands_for roles a.directive.subject b.directive.subject r in
       let by_minute : Active → Bool = λ b. in_minutes b.directive.from b.directive.until m in
       let p : Active → Bool = λ b. by_record b && by_origin b && by_purpose b && by_role b && by_minute b in
       let q : Directive → Bool =
-      λ e. same_effect a.directive e && stands_for roles a.directive.subject e.subject r && applies_to (holding roles rs) e x o u m in
-      rw (is.by_origin o ho.0 ho.1, is.by_purpose u hu.0 hu.1, is.by_role r hr.0 hr.1)
+      λ e. ok e && stands_for roles a.directive.subject e.subject r && applies_to (holding roles rs) e x o u m in
+      rw (is.by_origin o ho.0, ho.1, is.by_purpose u hu.0, hu.1, is.by_role r hr.0, hr.1)
       (five_share (entries_of list) few by_record by_origin by_purpose by_role by_minute
       ∙ ap (some_in p) given.others.selections
       ∙ some_map (active_in rs) p (directives_of list)
       ∙ some_alike (λ e. p (active_in rs e)) q (directives_of list)
       (λ e _.
       rw (contains_selected rs e x given.few)
-      (in_order (same_effect a.directive e) (selects rs e x) (from_origin e o) (for_purpose e u)
+      (in_order (ok e) (selects rs e x) (from_origin e o) (for_purpose e u)
       (stands_for roles a.directive.subject e.subject r) (in_minutes e.from e.until m))))
 
   selects_cut : (x : ℕ) → selects rs a.directive x ≡ ltb x (length rs) && selects rs a.directive x
@@ -130,10 +134,13 @@ module _ (roles : List ℕ) (rs : List Record) (clock : ℕ) (a : Active) (list 
   role_bit : (r : ℕ) → r < 16 → bit r t.roles ≡ ltb r (length roles) && stands_for roles a.directive.subject a.directive.subject r
   role_bit r h = ap (bit r) is.roles_are ∙ set_bit 16 r _ ∙ rw (lt-ltb r 16 h)
 
+  -- the search over the tables, by the masks of the entries that pass a test of their directive, is the search for a request that none
+  -- of these directives meets
   pub tables_found :
-      {b : Bool} → b ≡ all_covered a (entries_of list) t → b ≡ redundant_found (holding roles rs) clock a.directive (directives_of list)
-  unfolding all_covered level_covered minutes_covered included_found
-  tables_found e =
+      (ok : Directive → Bool) {b : Bool} → b ≡ all_of record_places (contains a.selected) (λ x. origins_covered a t (mask_of ok x)) →
+      b ≡ included_found (holding roles rs) clock ok a.directive (directives_of list)
+  unfolding level_covered minutes_covered included_found
+  tables_found ok e =
       let d = a.directive in
       e
       ∙ of_same 128 (length rs) (contains a.selected) (selects rs d) _ _ given.few
@@ -147,12 +154,18 @@ module _ (roles : List ℕ) (rs : List Record) (clock : ℕ) (a : Active) (list 
       (λ r hr tr.
       let narrowed =
       bit_and
-      (bit_and (bit_and (record_mask (entries_of list) d.permit x) (get_or t.by_origin o 0)) (get_or t.by_purpose u 0))
+      (bit_and (bit_and (mask_of ok x) (get_or t.by_origin o 0)) (get_or t.by_purpose u 0))
       (get_or t.by_role r 0) in
       let r_in : r < 16 = omega arith in
       ap (all_in (λ m. not (eqb (bit_and narrowed m) 0))) is.minutes
-      ∙ spanned (in_minutes (start clock d) d.until) _ (covered_at (holding roles rs) (same_effect d) d (directives_of list) x o u r)
+      ∙ spanned (in_minutes (start clock d) d.until) _ (covered_at (holding roles rs) ok d (directives_of list) x o u r)
       (minute_mask (entries_of list))
-      (λ m. masks_meet x o u r m (ho, to) (omega arith, tu) (r_in, role_bit r r_in ∙ rw (lt-ltb r (length roles) hr, tr)))
+      (λ m. masks_meet ok x o u r m (ho, to) (omega arith, tu) (r_in, role_bit r r_in ∙ rw (lt-ltb r (length roles) hr, tr)))
       (boundaries_of (start clock d) (entries_of list))
       ∙ ap (all_in _) (ap (λ ms. start clock d ∷ ms) (sym (map-map (λ (e : Directive). e.until) (λ (b : Active). b.directive) (entries_of list))))))))
+
+  -- so the tables of a draft find whether it is redundant beside the directives of its effect
+  pub redundant_by_tables :
+      {b : Bool} → b ≡ all_covered a (entries_of list) t → b ≡ redundant_found (holding roles rs) clock a.directive (directives_of list)
+  unfolding all_covered
+  redundant_by_tables e = tables_found (same_effect a.directive) e

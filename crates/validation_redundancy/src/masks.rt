@@ -1,7 +1,8 @@
 // Masks of the active directives: bit i for directive i, set where it matches one value of a dimension.
-ghost use Rattle.std.specs.Prelude.{◌≡◌, ◌&&◌, Bool, length, nat_lt};
+ghost use Rattle.std.specs.Prelude.{◌≡◌, ◌&&◌, Bool};
 ghost use Rattle.sets.specs.Bits.{bit, set_of};
 ghost use Rattle.register.specs.Register.{role_places};
+ghost use Rattle.register.specs.Roles.{has_role};
 ghost use Rattle.active.specs.declared.Active.{Active as Entry};
 ghost use Rattle.active.specs.Active.{entries_of};
 ghost use Rattle.validation_meaning.specs.Search.{stands_for};
@@ -9,7 +10,7 @@ ghost use Rattle.validation_redundancy.specs.Masks.{mask_where, minute_mask, rec
 
 use active::{Active, ActiveList};
 use directive::Subject;
-use register::{ROLES, roles};
+use register::roles;
 use sets::bits;
 use validation_conflict::minutes::within;
 
@@ -78,15 +79,9 @@ fn stands_for(parents: &[u8], s: Subject, t: Subject, role: u16) -> bool
     }
 }
 
-// The roles in which the subject covers the person who stands for it.
-pub fn standing_roles(parents: &[u8], s: Subject) -> u16
-    ensures { result ≡ set_of role_places (λ r. nat_lt r (length parents.now) && stands_for parents.now s s r) }
+// The roles in which the subject t covers the person who stands for s.
+pub fn standing_roles(parents: &[u8], s: Subject, t: Subject) -> u16
+    ensures { result ≡ set_of role_places (λ r. has_role parents.now r && stands_for parents.now s t r) }
 {
-    let mut set: u16 = 0;
-    for r in 0..parents.len().min(ROLES) as u16 {
-        if stands_for(parents, s, s, r) {
-            set += 1 << r;
-        }
-    }
-    set
+    roles::set_where(parents, |r| stands_for(parents, s, t, r))
 }

@@ -12,6 +12,7 @@ ghost use Rattle.validation_redundancy.specs.Masks.{all_covered};
 use crate::masks::{origin_mask, purpose_mask, record_mask, role_mask, standing_roles};
 use crate::tables::{Tables, minutes_of, table};
 use active::{Active, ActiveList};
+use sets::bits;
 
 // Whether the directives of `done`, which leave nothing uncovered, are all among those of `mask`.
 fn known(done: u32, mask: u32) -> bool
@@ -20,9 +21,10 @@ fn known(done: u32, mask: u32) -> bool
     done != 0 && mask & done == done
 }
 
-// Whether no request is left uncovered: the search is left at the first that is. At each level a mask of the directives that
-// match so far is narrowed; one that has in it all of the last mask that left nothing uncovered leaves nothing uncovered. The levels are loops
-// over numbers, labelled and nested, and no iterators: the inner ones leave or go on with the outer.
+// Whether no request is left uncovered. At each level a mask of the directives that match so far is narrowed; one that has in it all of the
+// last mask that left nothing uncovered leaves nothing uncovered. Document 01 names the form: labelled nested loops over record, origin,
+// purpose, role and boundary minute, left from inside at the first uncovered request. `as`: a counter stays below the end of its loop, and
+// `TryFrom` would answer a `Result` that cannot fail.
 fn all_covered(a: &Active, list: &ActiveList, tables: &Tables) -> bool
     ensures { result ≡ all_covered a.now (entries_of list.now) tables.now }
 {
@@ -44,7 +46,7 @@ fn all_covered(a: &Active, list: &ActiveList, tables: &Tables) -> bool
         }
         let mut done_at_origin: u32 = 0;
         'origin: for o in 0..16usize {
-            if (origins >> o) % 2 == 0 {
+            if !bits::has(origins, o as u8) {
                 continue 'origin;
             }
             let at_origin = at_item & tables.by_origin[o];
@@ -53,7 +55,7 @@ fn all_covered(a: &Active, list: &ActiveList, tables: &Tables) -> bool
             }
             let mut done_at_purpose: u32 = 0;
             'purpose: for u in 0..11usize {
-                if (purposes >> u) % 2 == 0 {
+                if !bits::has(purposes, u as u8) {
                     continue 'purpose;
                 }
                 let at_purpose = at_origin & tables.by_purpose[u];
@@ -62,15 +64,15 @@ fn all_covered(a: &Active, list: &ActiveList, tables: &Tables) -> bool
                 }
                 let mut done_at_role: u32 = 0;
                 'role: for r in 0..16usize {
-                    if (roles >> r) % 2 == 0 {
+                    if !bits::has(roles, r as u8) {
                         continue 'role;
                     }
                     let at_role = at_purpose & tables.by_role[r];
                     if known(done_at_role, at_role) {
                         continue 'role;
                     }
-                    'minute: for mask in minutes {
-                        if at_role & *mask == 0 {
+                    'minute: for &mask in minutes {
+                        if at_role & mask == 0 {
                             covered = false;
                             break 'item;
                         }
@@ -86,7 +88,7 @@ fn all_covered(a: &Active, list: &ActiveList, tables: &Tables) -> bool
     covered
 }
 
-// Whether the directive is redundant beside the active ones.
+// Whether the directive is redundant beside the active ones. The parts of a ledger stand by themselves, since the ledger is a crate above.
 pub fn is_redundant(parents: &[u8], clock: u32, a: &Active, list: &ActiveList) -> bool
     requires { length parents.now ≤ role_places }
     ensures searched { (rs : List Held) → Given rs a.now list.now → result ≡ redundant_found (holding parents.now rs) clock a.now.directive (directives_of list.now) }
@@ -94,7 +96,7 @@ pub fn is_redundant(parents: &[u8], clock: u32, a: &Active, list: &ActiveList) -
 {
     let d = &a.directive;
     let s = d.subject;
-    let roles = standing_roles(parents, s);
+    let roles = standing_roles(parents, s, s);
     let by_origin = table(d.subject_origins, |k| origin_mask(list, k));
     let by_purpose = table(d.purposes, |k| purpose_mask(list, k));
     let by_role = table(roles, |k| role_mask(list, parents, s, u16::from(k)));

@@ -1,6 +1,6 @@
 -- `compared`: question 17 of the requester, then the records that change among those that the new directive selects.
 use mathlib.Core.Bool.{not}
-use mathlib.Core.Path.{ap}
+use mathlib.Core.Path.{refl, ap}
 use Rattle.register.proofs.CallLaws.{failed, passed}
 use Rattle.ledger_model.specs.Answer.{done}
 use Rattle.ledger_model.specs.Model.{Model}
@@ -22,5 +22,5 @@ returns c before after d last =
     let asked = rw c.register.ensures at c.requester_in_range.ensures in
     let list = c.active.ensures in
     let chosen = c.last_selection-among.ensures _ (view c.args.before.now).active d (rw (← list) at after.shape.active_held) (rw (← list) at (ap (λ (m : Model). m.active) last)) in
-    rw (passed asked (ap not c.if-not-requester_in_range.false))
-    (ap done (shown_among _ d _ (records_few before.shape) last chosen (c.changed_among-records.ensures before after) c.len.ensures))
+    rw (c.from.ensures, passed asked (ap not c.if-not-requester_in_range.false))
+    (ap done (shown_among _ d _ (records_few before.shape) last chosen (c.changed_among.ensures before after) refl))

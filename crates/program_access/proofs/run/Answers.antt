@@ -17,7 +17,8 @@ returns-in_err-put g c =
     let after = g.W.Write.contents c.put.new.output in
     let read = c.in_ok-n.ensures in
     let buffer = c.fill.new.buf in
-    let shown = cut (take c.in_ok-n.n buffer) d w before after c.access-shown.ensures c.in_err-put.ensures in
+    let written = rw c.as_slice.ensures.value at c.in_err-put.ensures in
+    let shown = cut (take c.in_ok-n.n buffer) d w before after (rw c.new-out.ensures at c.access-status.ensures) written in
     rw p.1
     (first_bytes 65535 _ _ c.in_ok-n.n buffer (λ (card : List ℕ). Answers card d w Failed before after) (search rules) read.fills.0 read.bytes.0 read.bytes.1 shown)
 
@@ -29,5 +30,6 @@ returns g c =
     let after = g.W.Write.contents c.put.new.output in
     let read = c.in_ok-n.ensures in
     let buffer = c.fill.new.buf in
-    let shown = answered (take c.in_ok-n.n buffer) d w before after c.access-shown.ensures c.in_ok-put.ensures in
-    first_bytes 65535 _ _ c.in_ok-n.n buffer (λ (card : List ℕ). Answers card d w c.access-shown.result.status before after) (search rules) read.fills.0 read.bytes.0 read.bytes.1 shown
+    let written = rw c.as_slice.ensures.value at c.in_ok-put.ensures in
+    let shown = answered (take c.in_ok-n.n buffer) d w before after (rw c.new-out.ensures at c.access-status.ensures) written in
+    first_bytes 65535 _ _ c.in_ok-n.n buffer (λ (card : List ℕ). Answers card d w c.access-status.result before after) (search rules) read.fills.0 read.bytes.0 read.bytes.1 shown

@@ -5,4 +5,4 @@ use Rattle.program_replay.proofs.run.Given as goal
 
 abbrev pub invariant-loop : goal.invariant-loop
 invariant-loop g l =
-    Invariant l.ledger × (length l.value ≡ 65535) × (length l.lent ≡ 65535) × (length l.out ≡ 131155) × (length l.head ≡ 3)
+    Invariant l.ledger × (length l.value ≡ 65535) × (length l.lent ≡ 65535) × (length l.head ≡ 3)

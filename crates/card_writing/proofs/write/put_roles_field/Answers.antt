@@ -3,7 +3,8 @@ use Prim.Native.Nat.{◌+◌}
 use mathlib.Core.Path.{refl}
 use native.Mathlib.Omega.{arith}
 use lib.ListN.{length}
-use Rattle.card_writing.proofs.WriteLaws.{put_field, put_part}
+use Rattle.sets.proofs.PutLaws.{put_part}
+use Rattle.card_writing.proofs.WriteLaws.{put_field}
 use Rattle.card_writing.proofs.write.put_roles_field.Goals as goal
 
 pub returns : goal.returns

@@ -1,15 +1,13 @@
--- `lowest::lower`: d is taken where its number is lower.
+-- `lowest::lower`: the next is taken where its number is lower.
 use mathlib.Core.Path.{sym, ◌∙◌}
 use borrow.Author.Tests.{lt-ltb, le-ltb}
 use Rattle.directive.proofs.LowestLaws.{best_next}
 use Rattle.directive.proofs.lowest.lower.Goals as goal
 
-pub returns-then-d-lowest : goal.returns-then-d-lowest
-returns-then-d-lowest c ds e =
-    let d = c.args.d.now in
-    sym (best_next ds d c.in-Some.lowest (sym e ∙ c.in-Some.is) ∙ rw (lt-ltb d.number _ c.if-d-lowest.true))
+pub returns-then-next-lowest : goal.returns-then-next-lowest
+returns-then-next-lowest c ds d e is =
+    sym (best_next ds d c.args.next c.in-Some.lowest (sym e ∙ c.in-Some.is) is ∙ rw (lt-ltb _ _ c.if-next-lowest.true))
 
-pub returns-else-d-lowest : goal.returns-else-d-lowest
-returns-else-d-lowest c ds e =
-    let d = c.args.d.now in
-    sym (best_next ds d c.in-Some.lowest (sym e ∙ c.in-Some.is) ∙ rw (le-ltb d.number _ c.if-d-lowest.false))
+pub returns-else-next-lowest : goal.returns-else-next-lowest
+returns-else-next-lowest c ds d e is =
+    sym (best_next ds d c.args.next c.in-Some.lowest (sym e ∙ c.in-Some.is) is ∙ rw (le-ltb _ _ c.if-next-lowest.false))

@@ -13,7 +13,7 @@ pub returns : goal.returns
 returns c invariant =
     let l = c.args.self.now in
     let m = view l in
-    c.decide_by.ensures m refl refl
+    c.decide_by.ensures.decision m refl refl
     (λ best said.
     let few = records_few invariant.shape in
     let held = invariant.shape.active_held in

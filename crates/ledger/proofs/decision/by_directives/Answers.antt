@@ -35,7 +35,7 @@ module _ (m : Model) (q : Query) {origins : ℕ} {best : Option Best} (past : Un
   directive b e =
       rw (past.inside, past.no_patient, past.no_author, by_lowest (matching m q) _ b (sym lowest ∙ e))
 
-  default : (o : Bool) → best ≡ None → bit q.origin origins ≡ o → done (one_if (o && eqb q.purpose 0) ∷ 4 ∷ []) ≡ decided m q
+  default : (o : Bool) → best ≡ None → bit q.requester.origin origins ≡ o → done (one_if (o && eqb q.requester.purpose 0) ∷ 4 ∷ []) ≡ decided m q
   unfolding decided first_no decision
   default o e b =
       rw (
@@ -43,7 +43,7 @@ module _ (m : Model) (q : Query) {origins : ℕ} {best : Option Best} (past : Un
         past.no_patient,
         past.no_author,
         by_none (matching m q) _ (sym lowest ∙ e),
-        ap (bit q.origin) (sym past.default) ∙ b,
+        ap (bit q.requester.origin) (sym past.default) ∙ b,
       )
 
 pub returns-in-Some : goal.returns-in-Some

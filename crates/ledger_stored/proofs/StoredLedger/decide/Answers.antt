@@ -9,6 +9,6 @@ use Rattle.ledger_stored.proofs.StoredLedger.decide.Goals as goal
 pub returns : goal.returns
 unfolding ledger_of
 returns c invariant =
-    c.decide_by.ensures (view (ledger_of c.args.self.now)) refl refl
+    c.decide_by.ensures.decision (view (ledger_of c.args.self.now)) refl refl
     (λ best found.
     rw (← c.roles-roles.ensures.value) (search (rules, records_few invariant.shape, invariant.shape.active_held)))

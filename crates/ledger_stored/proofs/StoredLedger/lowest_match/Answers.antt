@@ -1,34 +1,19 @@
--- `StoredLedger::lowest_match`: after i turns the best is that of the first i directives that match.
-use mathlib.Core.Path.{◌≡◌, refl, ap, ◌∙◌}
-use native.Mathlib.Omega.{arith}
-use lib.ListN.{get_or}
-use Rattle.directive.proofs.MetLaws.{met_none, met_next, met_all}
-use Rattle.active.specs.declared.Active.{Active}
-use Rattle.active.specs.Active.{no_active, entries_of}
-use Rattle.active.proofs.ListLaws.{directive_at, selected_at}
-use Rattle.ledger_stored.specs.Stored.{active_list}
-use Rattle.ledger_stored.proofs.Entries.{entries_long, directives_long, entry_back}
+-- `StoredLedger::lowest_match`: the test of a stored entry is that of the directive of the entry that it stands for.
+use borrow.Author.Rules.{rules}
+use Rattle.register.specs.Register.{holding}
+use Rattle.directive.specs.Matching.{matches}
+use Rattle.active.proofs.ListLaws.{selected_in}
+use Rattle.ledger_stored.specs.Stored.{active_of, active_list}
+use Rattle.ledger_stored.proofs.Entries.{directives_back, entry_back}
 use Rattle.ledger_stored.proofs.StoredLedger.lowest_match.Goals as goal
-
-pub loop-stored-init : goal.loop-stored-init
-loop-stored-init c rs few held = met_none refl
-
-pub loop-stored-preserved : goal.loop-stored-preserved
-loop-stored-preserved c rs few held =
-    let self = c.args.self.now in
-    let l = active_list self in
-    let i = c.loop-stored.stored-index in
-    let are = c.entries-stored-items.ensures in
-    let is : c.from-a.result ≡ get_or (entries_of l) i no_active =
-    c.from-a.ensures ∙ entry_back self are i _ (omega arith) in
-    met_next (c.loop-stored.invariant rs few held) (rw (directives_long self are) (omega arith))
-    (ap (λ (a : Active). a.directive) is ∙ directive_at l i)
-    (c.matches.ensures rs few
-    (rw is (selected_at l i (rw (entries_long self are) (omega arith)) held)))
-    c.lower_where-best.ensures
 
 pub returns : goal.returns
 returns c rs few held =
-    let self = c.args.self.now in
-    met_all (c.loop-stored.invariant rs few held)
-    (rw (directives_long self c.entries-stored-items.ensures) (omega arith))
+    let args = c.args in
+    let self = args.self.now in
+    let are = c.entries.ensures in
+    rw (← directives_back self are)
+    (c.lowest_met.ensures (λ e. (active_of e).directive) (λ d. matches (holding args.parents.now rs) d args.q)
+    (λ e r inside said.
+    let own = selected_in (active_list self) held (entry_back self are inside) in
+    search rules))

@@ -3,6 +3,6 @@ use Rattle.program_replay.proofs.LineLaws.{printed}
 use Rattle.program_replay.proofs.answer.put_answer.Goals as goal
 
 pub returns : goal.returns
-returns c =
-    let starts = rw c.numbers.ensures at c.put_line.ensures.starts_with in
-    rw c.is_ok.ensures.value (printed c.args.a c.args.lent.now c.line_of-line.ensures c.min-n.ensures starts)
+returns g c =
+    let text = rw (c.clear.ensures, c.numbers.ensures) at c.push_line.ensures in
+    rw c.is_ok.ensures.value (printed c.args.a c.args.lent.now c.line_of-line.ensures c.min-n.ensures text)

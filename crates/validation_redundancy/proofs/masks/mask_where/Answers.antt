@@ -1,24 +1,17 @@
 -- `masks::mask_where` adds the directives in turn: after i turns the mask has those of the first i that pass.
-use Prim.Native.Nat.{ℕ, ◌+◌, ◌*◌, ◌%◌, ◌^◌, ◌<◌, ◌≤◌}
+use Prim.Native.Nat.{◌+◌, ◌<◌, ◌≤◌}
 use mathlib.Core.Path.{◌≡◌, sym, ap, ◌∙◌}
 use mathlib.Core.Bool.{Bool}
 use mathlib.Core.List.{List}
 use native.Mathlib.Nat.{lt_of_lt_of_le}
-use native.Mathlib.Numerals.{add-one}
 use native.Mathlib.Omega.{arith}
 use lib.ListN.{length, get_or}
-use lib.Pow.{pow_mono, shl_exact}
-use Rattle.sets.proofs.SetLaws.{built_none, built_with, built_without, built_all}
+use lib.Pow.{pow_mono}
+use Rattle.sets.proofs.SetLaws.{bit_more, built_none, built_with, built_without, built_all}
 use Rattle.active.specs.declared.Active.{Active}
 use Rattle.active.specs.Active.{no_active, entries_of}
 use Rattle.validation_redundancy.proofs.masks.mask_where.Goals.{then-test, else-test}
 use Rattle.validation_redundancy.proofs.masks.mask_where.Goals as goal
-
--- one bit more
-more : (mask i : ℕ) → mask < 2 ^ i → i < 32 → (mask + 1 * 2 ^ i % 2 ^ 32 < 2 ^ (i + 1)) × (mask + 1 * 2 ^ i % 2 ^ 32 < 2 ^ 32)
-more mask i h l =
-    let next : mask + 1 * 2 ^ i % 2 ^ 32 < 2 ^ (i + 1) = rw (shl_exact {a = 1} 1 i 32 (omega arith) (omega arith), add-one i) (omega arith) in
-    (next, lt_of_lt_of_le next (pow_mono {j = 32} (omega arith)))
 
 pub loop-i-init : goal.loop-i-init
 loop-i-init g c = (omega arith, λ p f. built_none)
@@ -37,7 +30,7 @@ loop-i-preserved g c =
     λ p f. ap (λ (es : List Active). p (get_or es i no_active)) (sym same) ∙ sym (f _ _ c.test.ensures) in
     elim c.if-test.branch [
       | then-test w ↦ rw w.mask-is (
-        (more c.loop-i.mask i small under).0,
+        (bit_more 32 c.loop-i.mask i small under).0,
         λ p f. built_with (c.loop-i.invariant.1 p f) 32 few here (said p f ∙ w.if-test.true),
       )
       | else-test w ↦ rw w.mask-is (
@@ -48,7 +41,7 @@ loop-i-preserved g c =
 
 pub overflow_add-mask : goal.overflow_add-mask
 overflow_add-mask g c =
-    record { fits = (more c.loop-i.mask c.loop-i.i c.loop-i.invariant.0 (omega (arith, c.as_slice-a-items.ensures.few))).1 }
+    record { fits = (bit_more 32 c.loop-i.mask c.loop-i.i c.loop-i.invariant.0 (omega (arith, c.as_slice-a-items.ensures.few))).1 }
 
 pub returns : goal.returns
 returns g c p f = built_all (c.loop-i.invariant.1 p f) (omega (arith, ap length c.as_slice-a-items.ensures.value))

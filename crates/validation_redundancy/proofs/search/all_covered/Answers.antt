@@ -4,7 +4,7 @@ use mathlib.Core.Path.{refl, sym, ◌∙◌, ap}
 use lib.ListN.{length}
 use Rattle.register.proofs.CallLaws.{failed, passed}
 use Rattle.validation_redundancy.specs.Masks.{all_covered}
-use Rattle.validation_redundancy.proofs.CoverLaws.{minutes_monotone, level_monotone, passed_none, passed_skip, passed_known, passed_more, passed_all, passed_not, level_all, level_not, minutes_none, minutes_more, minutes_all, minutes_not, no_bit, a_bit}
+use Rattle.validation_redundancy.proofs.CoverLaws.{minutes_monotone, level_monotone, passed_none, passed_skip, passed_known, passed_more, passed_all, passed_not, level_all, level_not, minutes_none, minutes_more, minutes_all, minutes_not}
 use Rattle.validation_redundancy.proofs.search.all_covered.Goals as goal
 
 pub item-init : goal.item-init
@@ -22,9 +22,9 @@ item-preserved-then-known c =
 pub origin-init : goal.origin-init
 origin-init c = passed_none c.item.invariant.still
 
-pub origin-preserved-then-origins-o-eq0 : goal.origin-preserved-then-origins-o-eq0
-origin-preserved-then-origins-o-eq0 c =
-    passed_skip c.origin.invariant c.origin-test.true (no_bit _ c.if-origins-o-eq0.true)
+pub origin-preserved-then-not-has : goal.origin-preserved-then-not-has
+origin-preserved-then-not-has c =
+    passed_skip c.origin.invariant c.origin-test.true (failed c.has.ensures (ap not c.if-not-has.true))
 
 pub origin-preserved-then-known-2 : goal.origin-preserved-then-known-2
 origin-preserved-then-known-2 c =
@@ -34,9 +34,9 @@ origin-preserved-then-known-2 c =
 pub purpose-init : goal.purpose-init
 purpose-init c = passed_none c.origin.invariant.still
 
-pub purpose-preserved-then-purposes-u-eq0 : goal.purpose-preserved-then-purposes-u-eq0
-purpose-preserved-then-purposes-u-eq0 c =
-    passed_skip c.purpose.invariant c.purpose-test.true (no_bit _ c.if-purposes-u-eq0.true)
+pub purpose-preserved-then-not-has-2 : goal.purpose-preserved-then-not-has-2
+purpose-preserved-then-not-has-2 c =
+    passed_skip c.purpose.invariant c.purpose-test.true (failed c.has-in-purpose.ensures (ap not c.if-not-has-2.true))
 
 pub purpose-preserved-then-known-3 : goal.purpose-preserved-then-known-3
 purpose-preserved-then-known-3 c =
@@ -46,9 +46,9 @@ purpose-preserved-then-known-3 c =
 pub role-init : goal.role-init
 role-init c = passed_none c.purpose.invariant.still
 
-pub role-preserved-then-roles-r-eq0 : goal.role-preserved-then-roles-r-eq0
-role-preserved-then-roles-r-eq0 c =
-    passed_skip c.role.invariant c.role-test.true (no_bit _ c.if-roles-r-eq0.true)
+pub role-preserved-then-not-has-3 : goal.role-preserved-then-not-has-3
+role-preserved-then-not-has-3 c =
+    passed_skip c.role.invariant c.role-test.true (failed c.has-in-role.ensures (ap not c.if-not-has-3.true))
 
 pub role-preserved-then-known-4 : goal.role-preserved-then-known-4
 role-preserved-then-known-4 c =
@@ -93,7 +93,7 @@ returns-then-at_role-mask-eq0 c =
     (passed_not c.item.invariant c.item-test.true
     (passed c.contains.ensures (ap not c.if-not-contains.false))
     c.record_mask-at_item.ensures
-    (level_not _ _ _ _ _ c.origin.invariant c.origin-test.true (a_bit _ c.if-origins-o-eq0.false)
-    (level_not _ _ _ _ _ c.purpose.invariant c.purpose-test.true (a_bit _ c.if-purposes-u-eq0.false)
-    (level_not _ _ _ _ _ c.role.invariant c.role-test.true (a_bit _ c.if-roles-r-eq0.false)
+    (level_not _ _ _ _ _ c.origin.invariant c.origin-test.true (passed c.has.ensures (ap not c.if-not-has.false))
+    (level_not _ _ _ _ _ c.purpose.invariant c.purpose-test.true (passed c.has-in-purpose.ensures (ap not c.if-not-has-2.false))
+    (level_not _ _ _ _ _ c.role.invariant c.role-test.true (passed c.has-in-role.ensures (ap not c.if-not-has-3.false))
     (minutes_not _ _ (rw (ap length same) at c.minute-test.true) (rw same at c.if-at_role-mask-eq0.true))))))

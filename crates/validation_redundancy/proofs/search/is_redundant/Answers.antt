@@ -12,7 +12,7 @@ use Rattle.validation_meaning.specs.Search.{redundant_found}
 use Rattle.validation_meaning.proofs.Exact.{redundant_exact}
 use Rattle.validation_conflict.specs.Given.{Given}
 use Rattle.validation_redundancy.specs.declared.tables.Tables.{Tables}
-use Rattle.validation_redundancy.proofs.TableLaws.{TablesOf, few, tables_found}
+use Rattle.validation_redundancy.proofs.TableLaws.{TablesOf, few, redundant_by_tables}
 use Rattle.validation_redundancy.proofs.search.is_redundant.Goals as goal
 
 pub returns : goal.returns
@@ -35,10 +35,10 @@ returns c =
       by_purpose = c.table-by_purpose.ensures _ (λ k m h. search rules);
       roles_are = c.standing_roles-roles.ensures;
       by_role = c.table-by_role.ensures _ (λ k m h. search rules);
-      minutes = c.minutes_of-minutes.ensures;
+      minutes = c.minutes_of-minutes.ensures.masks;
     } in
     let found : (rs : List Record) → Given rs a list → c.all_covered.result ≡ redundant_found (holding roles rs) args.clock a.directive (directives_of list) =
-    λ rs given. tables_found roles rs args.clock a list given c.requires tables are c.all_covered.ensures in
+    λ rs given. redundant_by_tables roles rs args.clock a list given c.requires tables are c.all_covered.ensures in
     record {
       searched = found;
       meant = λ rs given fit.

@@ -2,8 +2,9 @@
 use Prim.Native.Nat.{◌+◌, ◌<◌, ◌≤◌}
 use mathlib.Core.Path.{◌≡◌, refl, sym, ap, ◌∙◌}
 use mathlib.Core.List.{List}
+use native.Mathlib.Nat.{min-le_left}
 use native.Mathlib.Omega.{arith}
-use lib.ListN.{length, get_or}
+use lib.ListN.{length, get_or, length-take}
 use lib.Seq.{take_all}
 use Rattle.directive.specs.Matching.{in_minutes}
 use Rattle.active.specs.declared.Active.{Active}
@@ -58,8 +59,14 @@ loop-a-preserved c =
       )
     ]
 
-pub returns : goal.returns
-returns c =
+pub returns-clause-few : goal.returns-clause-few
+returns-clause-few c =
+    let t = c.loop-a.minutes in
+    rw (length-take t.count t.masks)
+    (omega (arith, c.loop-a.invariant.0, ap length c.as_slice-a-items.ensures.value, c.as_slice-a-items.ensures.few, min-le_left t.count (length t.masks)))
+
+pub returns-clause-masks : goal.returns-clause-masks
+returns-clause-masks c =
     let l = entries_of c.args.list.now in
     let all_in : length (boundaries_of c.first_minute-first.result l) ≤ c.loop-a.a-index + 1 =
     omega (arith, boundaries_long c.first_minute-first.result l, ap length c.as_slice-a-items.ensures.value) in
