@@ -4,8 +4,8 @@ use mathlib.Core.Path.{◌≡◌, refl, sym, ap, ap₂, ◌∙◌}
 use mathlib.Core.Bool.{Bool}
 use mathlib.Core.List.{List, [], ◌∷◌, ◌++◌, map, map-append}
 use native.Mathlib.Omega.{arith}
-use lib.ListN.{length, get_or, length-map, length-append}
-use lib.Seq.{get_or-append_seam}
+use lib.ListN.{length, get_or, length-take, length-map, length-append, get_or-map}
+use lib.Seq.{get_or-take, get_or-append_seam}
 use Rattle.std.specs.List.{Contains}
 use Rattle.sets.specs.Quantifiers.{some_in, keep}
 use Rattle.sets.specs.RecordSets.{contains}
@@ -27,9 +27,19 @@ pub some_entries :
     (p : Directive → Bool) (l : ActiveList) → some_in (λ a. p a.directive) (entries_of l) ≡ some_in p (directives_of l)
 some_entries p l = sym (some_map (λ a. a.directive) p (entries_of l))
 
+-- entry i
+module _ (l : ActiveList) (i : ℕ) (h : i < length (directives_of l)) where
+  in_count : i < l.count
+  in_count = omega (arith, simp (length-map, length-take) at h)
+
+  pub directive_at : (get_or l.entries i no_active).directive ≡ get_or (directives_of l) i no_directive
+  directive_at =
+      ap (λ (a : Active). a.directive) (sym (get_or-take l.count l.entries i no_active in_count))
+      ∙ sym (get_or-map (λ a. a.directive) (entries_of l) i no_active)
+
 -- the entries that count
 module _ (l : ActiveList) {rs : List Record} (held : ActiveInvariant rs l) where
-  entry_at :
+  pub entry_at :
       (i : ℕ) (d : Directive) (a : Active) → i < length (entries_of l) →
       get_or (entries_of l) i a ≡ active_in rs (get_or (directives_of l) i d)
   entry_at i d a h =

@@ -20,9 +20,8 @@ use Rattle.sets.proofs.Quantifiers.{same_test, either_way, and_both}
 use Rattle.sets.proofs.Lists.{all_append}
 use Rattle.sets.proofs.BitLaws.{subset_and}
 use Rattle.sets.proofs.Numbers.{length_bytes, bytes_are_bytes, number_of_bytes, number_at_bound, bytes_next}
-use Rattle.register.specs.declared.records.Reach.{Reach}
-use Rattle.register.specs.declared.records.Reach.TheVariants.{Itself, Children, Descendants, Folder, Nothing}
 use Rattle.register.specs.Records.{last_reach, reach_of, reach_number}
+use Rattle.register.proofs.ReachLaws.{reach_read}
 use Rattle.directive.specs.declared.Subject.{Subject}
 use Rattle.directive.specs.declared.Subject.TheVariants.{Person, Role}
 use Rattle.directive.specs.declared.Directive.{Directive}
@@ -75,13 +74,6 @@ number_of_named true n = refl
 number_of_named false n = refl
 
 -- a reach and its number
-reach_read : (r : Reach) → reach_of (reach_number r) ≡ r
-reach_read Itself = refl
-reach_read Children = refl
-reach_read Descendants = refl
-reach_read Folder = refl
-reach_read Nothing = refl
-
 reach_written : (v : ℕ) → v ≤ last_reach → reach_number (reach_of v) ≡ v
 reach_written zero h = refl
 reach_written (suc zero) h = refl

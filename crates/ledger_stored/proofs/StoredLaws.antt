@@ -4,9 +4,7 @@ use mathlib.Core.Bool.{Bool, true, false, not}
 use mathlib.Core.List.{List, [], ◌∷◌, map}
 use lib.Dec.{eqb}
 use Rattle.sets.specs.Quantifiers.{one_if}
-use Rattle.register.specs.declared.records.Reach.{Reach}
-use Rattle.register.specs.declared.records.Reach.TheVariants.{Itself, Children, Descendants, Folder, Nothing}
-use Rattle.register.specs.Records.{reach_of, reach_number}
+use Rattle.register.proofs.ReachLaws.{reach_read}
 use Rattle.directive.specs.declared.Subject.{Subject}
 use Rattle.directive.specs.declared.Subject.TheVariants.{Person, Role}
 use Rattle.directive.specs.Matching.{subject_named, is_role, number_of}
@@ -23,18 +21,11 @@ subject_back : (s : Subject) → subject_named (is_role s) (number_of s) ≡ s
 subject_back (Person n) = refl
 subject_back (Role n) = refl
 
-reach_back : (r : Reach) → reach_of (reach_number r) ≡ r
-reach_back Itself = refl
-reach_back Children = refl
-reach_back Descendants = refl
-reach_back Folder = refl
-reach_back Nothing = refl
-
 active_back : (a : Active) → active_of (stored_active a) ≡ a
 unfolding active_of directive_of stored_active
 active_back a =
     let s = a.directive.subject in
-    rw (bit_back a.directive.permit, bit_back (is_role s), subject_back s, reach_back a.directive.reach) refl
+    rw (bit_back a.directive.permit, bit_back (is_role s), subject_back s, reach_read a.directive.reach) refl
 
 token_back : (k : Token) → token_of (stored_token k) ≡ k
 unfolding token_of stored_token

@@ -21,7 +21,7 @@ the_stamp = 0x4E6577656C730001
 abbrev pub the_size : ℕ
 the_size = 2928
 
--- A kind other than 0 is a role's, an effect other than 0 is permit, and a reach past the last stands for the last.
+-- A kind other than 0 is a role's, an effect other than 0 is permit, and a reach past the last takes nothing and is kept.
 unfoldable pub directive_of : StoredActive → Directive
 directive_of t =
     record {

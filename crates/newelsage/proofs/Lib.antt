@@ -1,2 +1,3 @@
 pub mod LibraryLaws
 pub mod ListLaws
+pub mod WalkLaws

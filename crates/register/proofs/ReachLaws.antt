@@ -1,17 +1,36 @@
 -- What a reach takes, for every reach by its description.
-use Prim.Native.Nat.{ℕ}
+use Prim.Native.Nat.{ℕ, zero, suc, ◌≤◌}
 use mathlib.Core.Path.{◌≡◌, refl, sym, ap}
 use mathlib.Core.Bool.{true, false, ◌&&◌, ◌||◌, and-true, and-false, or-false}
 use mathlib.Core.List.{List}
 use mathlib.Core.Logic.{⊎_elim}
+use native.Mathlib.Omega.{arith}
 use borrow.Author.Tests.{eq-eqb}
+use Rattle.std.proofs.Math.Bridge.{le_prop}
 use lib.Dec.{eqb}
 use Rattle.sets.proofs.Quantifiers.{never_true, both_ways, and_right, or_cases, or_right}
 use Rattle.register.specs.declared.Record.{Record}
 use Rattle.register.specs.declared.records.Reach.{Reach}
-use Rattle.register.specs.declared.records.Reach.TheVariants.{Itself, Descendants, Folder}
-use Rattle.register.specs.Records.{parents, child, descendant, taken_by, reaches}
+use Rattle.register.specs.declared.records.Reach.TheVariants.{Itself, Children, Descendants, Folder, Nothing}
+use Rattle.register.specs.Records.{parents, child, descendant, reach_of, reach_number, taken_by, reaches}
 use Rattle.register.proofs.TreeLaws.{not_above_self, parent_above}
+
+-- a number past the last is the reach that takes nothing and keeps it
+pub reach_past : (n : ℕ) (h : 4 ≤ n) → Nothing (record { number = n; past = h }) ≡ reach_of n
+reach_past zero h = absurd (omega (arith, h))
+reach_past (suc zero) h = absurd (omega (arith, h))
+reach_past (suc (suc zero)) h = absurd (omega (arith, h))
+reach_past (suc (suc (suc zero))) h = absurd (omega (arith, h))
+reach_past (suc (suc (suc (suc n)))) h =
+    ap (λ (past : 4 ≤ suc (suc (suc (suc n)))). Nothing (record { number = suc (suc (suc (suc n))); past = past })) (le_prop h (omega arith))
+
+-- a reach is that of its number
+pub reach_read : (r : Reach) → reach_of (reach_number r) ≡ r
+reach_read Itself = refl
+reach_read Children = refl
+reach_read Descendants = refl
+reach_read Folder = refl
+reach_read (Nothing p) = sym (reach_past p.number p.past)
 
 module _ (rs : List Record) (r : ℕ) where
   -- no record is its own child: nor is the root, although 0 stands in the place for its parent

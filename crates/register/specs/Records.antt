@@ -1,4 +1,5 @@
 -- Records: the record of a number, children and descendants, and the reaches.
+use native.Mathlib.Omega.{arith}
 use Rattle.std.specs.Prelude.{ℕ, zero, suc, Bool, true, false, ◌&&◌, ◌||◌, List, map, length, slice_index_or, nat_eq, nat_lt}
 use Rattle.register.specs.declared.Record.{Record}
 use Rattle.register.specs.declared.records.Reach.{Reach}
@@ -31,18 +32,18 @@ reach_number Itself = 0
 reach_number Children = 1
 reach_number Descendants = 2
 reach_number Folder = 3
-reach_number Nothing = 4
+reach_number (Nothing p) = p.number
 
 abbrev pub last_reach : ℕ
 last_reach = 3
 
--- the reach of a number; there is none past the last, and such a number takes nothing
+-- the reach of a number; one past the last takes nothing, and is kept
 abbrev pub reach_of : ℕ → Reach
 reach_of zero = Itself
 reach_of (suc zero) = Children
 reach_of (suc (suc zero)) = Descendants
 reach_of (suc (suc (suc zero))) = Folder
-reach_of (suc (suc (suc (suc n)))) = Nothing
+reach_of (suc (suc (suc (suc n)))) = Nothing (record { number = suc (suc (suc (suc n))); past = omega arith })
 
 -- Which of a record itself, its children and all its descendants a reach takes.
 pub record Taken : Type 0 where
@@ -55,7 +56,7 @@ taken_by Itself = record { itself = true; children = false; descendants = false 
 taken_by Children = record { itself = false; children = true; descendants = false }
 taken_by Descendants = record { itself = false; children = false; descendants = true }
 taken_by Folder = record { itself = true; children = false; descendants = true }
-taken_by Nothing = record { itself = false; children = false; descendants = false }
+taken_by (Nothing p) = record { itself = false; children = false; descendants = false }
 
 -- whether a reach takes a record, given whether that is the record itself, a child, a descendant
 abbrev pub reach_takes : Reach → Bool → Bool → Bool → Bool

@@ -1,6 +1,12 @@
 // Records: parents and reaches.
-ghost use Rattle.std.specs.Prelude.{◌≡◌, ◌&&◌, nat_eq, nat_lt};
-ghost use Rattle.register.specs.Records.{reach_takes};
+ghost use Rattle.std.specs.Prelude.{◌≡◌, ◌≤◌, ◌&&◌, nat_eq, nat_lt};
+
+// A number past the last reach.
+#[derive(Clone, Copy, Debug, PartialEq, Eq)]
+pub struct PastLast {
+    pub number: u8,
+    pub ghost past: { 4 ≤ number },
+}
 
 // Which records a directive reaches from its own.
 #[derive(Clone, Copy, Debug, PartialEq, Eq)]
@@ -13,11 +19,11 @@ pub enum Reach {
     // the record with all its descendants
     Folder,
     // no record; question 7 lets no such number through
-    Nothing,
+    Nothing(PastLast),
 }
 
-// The reach of a number; past the last it takes nothing. That is no error, since a stored ledger holds any number and is brought back all the
-// same.
+// The reach of a number; past the last it takes nothing. That is no error, since a stored ledger holds any number, which is brought back and
+// stored again.
 impl From<u8> for Reach {
     ghost use Rattle.register.specs.Records.{reach_of};
 
@@ -29,7 +35,7 @@ impl From<u8> for Reach {
             1 => Reach::Children,
             2 => Reach::Descendants,
             3 => Reach::Folder,
-            _ => Reach::Nothing,
+            _ => Reach::Nothing(PastLast { number }),
         }
     }
 }
@@ -45,12 +51,14 @@ impl From<Reach> for u8 {
             Reach::Children => 1,
             Reach::Descendants => 2,
             Reach::Folder => 3,
-            Reach::Nothing => 4,
+            Reach::Nothing(past) => past.number,
         }
     }
 }
 
 impl Reach {
+    ghost use Rattle.register.specs.Records.{reach_takes};
+
     // Whether it takes a record that is the record itself, a child, a descendant. Three tests, and no structure of
     // them: each is named where it is made.
     pub fn takes(self, itself: bool, child: bool, descendant: bool) -> bool
@@ -61,7 +69,7 @@ impl Reach {
             Reach::Children => child,
             Reach::Descendants => descendant,
             Reach::Folder => itself || descendant,
-            Reach::Nothing => false,
+            Reach::Nothing(_) => false,
         }
     }
 }

@@ -4,7 +4,7 @@ use mathlib.Core.Path.{◌≡◌, refl, sym, ap, ◌∙◌}
 use mathlib.Core.Bool.{true}
 use mathlib.Core.List.{List, [], ◌∷◌, ◌++◌, append-nil}
 use native.Mathlib.Nat.{add-zero, add-suc, suc-add, zero-add, mul_assoc, pow-suc, pow-succ', div-add-mod', mul-le-mul_right, lt_of_lt_of_le, min-le_left, pow-le-pow_right, add-sub_of_le, div-div-eq-div-mul}
-use native.Mathlib.Numerals.{add-one}
+use native.Mathlib.Numerals.{add-one, add-two}
 use native.Mathlib.Omega.{arith}
 use borrow.Author.Tests.{ltb-true, lt-ltb}
 use lib.Dec.{ltb, lit<}
@@ -109,6 +109,27 @@ pub bytes_of_std : (n v : ℕ) → bytes_high_first n v ≡ bytes n v
 unfolding bytes
 bytes_of_std zero v = refl
 bytes_of_std (suc n) v = low_last n v ∙ rw (bytes_of_std n (v / 256))
+
+-- four bytes are two and two, read and written
+pub number_halves :
+    (i : ℕ) (s : List ℕ) → i + 4 ≤ length s → number_at i 4 s ≡ number_at i 2 s * 65536 + number_at (i + 2) 2 s
+unfolding number_from
+number_halves i s h =
+    rw (
+      add-two,
+      drop-cons s i 0 (omega arith),
+      drop-cons s (suc i) 0 (omega arith),
+      drop-cons s (suc (suc i)) 0 (omega arith),
+      drop-cons s (suc (suc (suc i))) 0 (omega arith),
+    )
+    (omega arith)
+
+pub bytes_halves : (v : ℕ) → bytes 4 v ≡ bytes 2 (v / 65536) ++ bytes 2 (v % 65536)
+unfolding bytes
+bytes_halves v =
+    let high : v % 65536 / 256 % 256 ≡ v / 256 % 256 = omega arith in
+    let low : v % 65536 % 256 ≡ v % 256 = omega arith in
+    rw (div-div-eq-div-mul v 256 256, high, low)
 
 -- b is the first n bytes of s: the number of the k bytes after them writes these
 pub bytes_next :

@@ -8,7 +8,7 @@ use native.Mathlib.Numerals.{add-one}
 use native.Mathlib.Omega.{arith}
 use borrow.Rule.Slice.PartMut.{put_mid}
 use lib.ListN.{length, take, get_or, set, length-append}
-use lib.Seq.{sets, sets-eq, length-sets, take-suc, drop-drop}
+use lib.Seq.{sets, sets-eq, set_comm, length-sets, take-suc, drop-drop}
 use Rattle.sets.specs.Quantifiers.{all_in}
 use Rattle.sets.specs.Numbers.{bytes, is_bytes}
 use Rattle.sets.proofs.Lists.{all_append}
@@ -20,6 +20,15 @@ sets_append :
     sets (sets l i vs) (i + length vs) ws ≡ sets l i (vs ++ ws)
 sets_append l i [] ws = rw add-zero
 sets_append l i (v ∷ vs) ws = rw (add-suc, ← (suc-add i (length vs))) (sets_append (set l i v) (suc i) vs ws)
+
+-- the last element may be stored first
+pub sets_last :
+    {A : Type 0} (vs : List A) (s : List A) (i : ℕ) (a : A) →
+    sets (set s (i + length vs) a) i vs ≡ sets s i (vs ++ (a ∷ []))
+sets_last [] s i a = rw add-zero
+sets_last (v ∷ vs) s i a =
+    rw (set_comm s (i + suc (length vs)) i a v (λ e. omega arith), add-suc, ← (suc-add i (length vs)))
+    (sets_last vs (set s i v) (suc i) a)
 
 -- the bytes that are copied into a part of s
 pub put_part :

@@ -83,5 +83,8 @@ fn stands_for(parents: &[u8], s: Subject, t: Subject, role: u16) -> bool
 pub fn standing_roles(parents: &[u8], s: Subject, t: Subject) -> u16
     ensures { result ≡ set_of role_places (λ r. has_role parents.now r && stands_for parents.now s t r) }
 {
-    roles::set_where(parents, |r| stands_for(parents, s, t, r))
+    match t {
+        Subject::Role(k) => roles::covered_set(parents, k),
+        Subject::Person(_) => roles::set_where(parents, |r| stands_for(parents, s, t, r)),
+    }
 }

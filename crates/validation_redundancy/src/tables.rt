@@ -1,5 +1,5 @@
 // The tables of the search: the masks of the values that a draft has, and those of its boundary minutes.
-ghost use Rattle.std.specs.Prelude.{◌≡◌, ◌+◌, ◌<◌, ◌≤◌, ◌++◌, ◌∷◌, [], ℕ, length, map, slice_index_or};
+ghost use Rattle.std.specs.Prelude.{◌≡◌, ◌+◌, ◌<◌, ◌≤◌, ◌++◌, ◌∷◌, [], ℕ, map, slice_index_or};
 ghost use Rattle.sets.specs.Quantifiers.{keep, pick};
 ghost use Rattle.sets.specs.Bits.{bit};
 ghost use Rattle.directive.specs.Matching.{in_minutes};
@@ -71,7 +71,7 @@ impl Minutes {
 
 // The masks at the boundary minutes that the draft d spans: where it starts, and where the active directives end.
 pub fn minutes_of(clock: u32, d: &Directive, list: &ActiveList) -> Minutes
-    ensures few { length (masks_of result) ≤ BOUNDARIES }
+    ensures few { result.count ≤ BOUNDARIES }
     ensures masks { masks_of result ≡ map (minute_mask (entries_of list.now)) (keep (in_minutes (start clock d.now) d.now.until) (boundaries_of (start clock d.now) (entries_of list.now))) }
 {
     let first = first_minute(d, clock);

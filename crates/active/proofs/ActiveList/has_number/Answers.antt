@@ -1,12 +1,13 @@
 -- `ActiveList::has_number`: at each turn, one of what is left has the number where one of all has.
 use Prim.Native.Nat.{ℕ}
-use mathlib.Core.Path.{◌≡◌, sym, ap, ◌∙◌}
+use mathlib.Core.Path.{◌≡◌, refl, sym, ap, ◌∙◌}
 use mathlib.Core.List.{List}
 use native.Mathlib.Omega.{arith}
 use borrow.Author.Tests.{eq-eqb, ne_eqb}
 use lib.ListN.{length, take, get_or}
 use lib.Seq.{take_all}
 use lib.Dec.{eqb}
+use Rattle.std.proofs.lemmas.List.{get_or_read_under}
 use Rattle.sets.specs.Quantifiers.{some_in}
 use Rattle.sets.proofs.WalkLaws.{sought_none, sought_next, sought_found, sought_all}
 use Rattle.active.specs.declared.Active.{Active}
@@ -29,8 +30,9 @@ returns-then-a-number c =
     let l = c.args.self.now in
     let same = c.as_slice-a-items.ensures.value in
     let i = c.loop-a.a-index in
+    let here = get_or_read_under c.as_slice-a-items.result.now i _ _ no_active c.a-item.is c.loop-a-test.true refl in
     let found = ap (λ (es : List Active). eqb (get_or es i no_active).directive.number c.args.number) (sym same)
-    ∙ eq-eqb _ _ c.if-a-number.true in
+    ∙ ap (λ (a : Active). eqb a.directive.number c.args.number) (sym here) ∙ eq-eqb _ _ c.if-a-number.true in
     sought_found _ no_active c.loop-a.invariant (omega (arith, ap length same)) (λ t. rw found) ∙ all_met l c.args.number
 
 pub loop-a-preserved : goal.loop-a-preserved
@@ -38,8 +40,9 @@ unfolding some_in
 loop-a-preserved c =
     let same = c.as_slice-a-items.ensures.value in
     let i = c.loop-a.a-index in
+    let here = get_or_read_under c.as_slice-a-items.result.now i _ _ no_active c.a-item.is c.loop-a-test.true refl in
     let missed = ap (λ (es : List Active). eqb (get_or es i no_active).directive.number c.args.number) (sym same)
-    ∙ ne_eqb _ _ c.if-a-number.false in
+    ∙ ap (λ (a : Active). eqb a.directive.number c.args.number) (sym here) ∙ ne_eqb _ _ c.if-a-number.false in
     sought_next _ no_active c.loop-a.invariant (omega (arith, ap length same)) (λ t. rw missed)
 
 pub returns : goal.returns

@@ -1,4 +1,4 @@
-use Prim.Native.Nat.{ℕ}
+use Prim.Native.Nat.{ℕ, ◌^◌, ◌<◌}
 use mathlib.Core.Path.{◌≡◌}
 use mathlib.Core.Bool.{◌&&◌}
 use lib.ListN.{get_or}
@@ -10,4 +10,5 @@ use Rattle.emergency.proofs.scope.scope.Given as goal
 -- a label is there where some state below s opens it
 abbrev pub invariant-loop-s : goal.invariant-loop-s
 invariant-loop-s l =
-    (k : ℕ) → bit k l.labels ≡ some_below l.s (λ i. bit i l.states && bit k (get_or label_masks i 0))
+    (l.labels < 2 ^ 16)
+    × ((k : ℕ) → bit k l.labels ≡ some_below l.s (λ i. bit i l.states && bit k (get_or label_masks i 0)))

@@ -8,7 +8,7 @@ use Rattle.replay_entries.specs.Entries.{says}
 use Rattle.newelsage.specs.Answers.{told_of, told_read}
 use Rattle.newelsage.proofs.answer.put_read.Goals as goal
 
-told_refused : (r : DirectiveRefusal) (m : Model) → told_read (record { answer = directive_refusal r; model = m }) ≡ told_of (directive_refusal r)
+pub told_refused : (r : DirectiveRefusal) (m : Model) → told_read (record { answer = directive_refusal r; model = m }) ≡ told_of (directive_refusal r)
 told_refused OutOfRange m = refl
 told_refused NotInRegister m = refl
 told_refused NoMinutes m = refl

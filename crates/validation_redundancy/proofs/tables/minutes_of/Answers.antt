@@ -2,10 +2,10 @@
 use Prim.Native.Nat.{◌+◌, ◌<◌, ◌≤◌}
 use mathlib.Core.Path.{◌≡◌, refl, sym, ap, ◌∙◌}
 use mathlib.Core.List.{List}
-use native.Mathlib.Nat.{min-le_left}
 use native.Mathlib.Omega.{arith}
-use lib.ListN.{length, get_or, length-take}
+use lib.ListN.{length, get_or}
 use lib.Seq.{take_all}
+use Rattle.std.proofs.lemmas.List.{get_or_read_under}
 use Rattle.directive.specs.Matching.{in_minutes}
 use Rattle.active.specs.declared.Active.{Active}
 use Rattle.active.specs.Active.{no_active, entries_of}
@@ -44,8 +44,10 @@ loop-a-preserved c =
     let i = c.loop-a.a-index in
     let same = c.as_slice-a-items.ensures.value in
     let inner : i + 1 < length ms = omega (arith, boundaries_long first l, ap length same) in
-    let here : (get_or c.as_slice-a-items.result.now i no_active).directive.until ≡ get_or ms (i + 1) 0 =
-    ap (λ (es : List Active). (get_or es i no_active).directive.until) same ∙ sym (boundary_at first l i) in
+    let met = get_or_read_under c.as_slice-a-items.result.now i _ _ no_active c.a-item.is c.loop-a-test.true refl in
+    let here : c.a-item.result.directive.until ≡ get_or ms (i + 1) 0 =
+    ap (λ (a : Active). a.directive.until) met ∙ ap (λ (es : List Active). (get_or es i no_active).directive.until) same
+    ∙ sym (boundary_at first l i) in
     let inv = c.loop-a.invariant in
     elim c.if-within-2.branch [
       | then-within-2 w ↦ rw w.minutes-is (
@@ -61,9 +63,7 @@ loop-a-preserved c =
 
 pub returns-clause-few : goal.returns-clause-few
 returns-clause-few c =
-    let t = c.loop-a.minutes in
-    rw (length-take t.count t.masks)
-    (omega (arith, c.loop-a.invariant.0, ap length c.as_slice-a-items.ensures.value, c.as_slice-a-items.ensures.few, min-le_left t.count (length t.masks)))
+    omega (arith, c.loop-a.invariant.0, ap length c.as_slice-a-items.ensures.value, c.as_slice-a-items.ensures.few)
 
 pub returns-clause-masks : goal.returns-clause-masks
 returns-clause-masks c =
