@@ -1,6 +1,8 @@
 // A program's arguments as bytes in hexadecimal.
-ghost use Rattle.std.specs.Prelude.{◌≡◌, ◌≤◌, None, MatchResult, IfOk, length, take};
-ghost use Rattle.arguments.specs.Hexadecimal.{is_hexadecimal, Decodes, AtMost};
+ghost use Rattle.std.specs.Prelude.{◌≡◌, ◌++◌, ◌+◌, ◌*◌, ◌/◌, ◌<◌, ◌≤◌, true, None, MatchResult, IfOk, length, slice_index, take, drop};
+ghost use Rattle.std.specs.Char.{is_ascii_hexdigit, digit_value};
+ghost use Rattle.std.specs.List.{list_all};
+ghost use Rattle.arguments.specs.Hexadecimal.{bytes_of, is_hexadecimal, Decodes, AtMost};
 
 use std::env::{Env, FillError};
 
@@ -13,6 +15,39 @@ fn is_hexadecimal(text: &[u8]) -> bool
     text.iter().all(u8::is_ascii_hexdigit) && text.len() % 2 == 0
 }
 
+// What a digit counts.
+fn hex_digit_of(b: u8) -> u8
+    requires { is_ascii_hexdigit b ≡ true }
+    ensures value { result ≡ digit_value b }
+    ensures below { result < 16 }
+{
+    match b {
+        b'0'..=b'9' => b - b'0',
+        b'a'..=b'f' => b - b'a' + 10,
+        _ => b - b'A' + 10,
+    }
+}
+
+// Byte k of those that the digits write.
+fn byte_at(digits: &[u8], k: usize) -> u8
+    requires are_digits { list_all is_ascii_hexdigit digits.now ≡ true }
+    requires within { 2 * k + 2 ≤ length digits.now }
+    ensures { result ≡ slice_index (bytes_of digits.now) k }
+{
+    hex_digit_of(digits[2 * k]) * 16 + hex_digit_of(digits[2 * k + 1])
+}
+
+// The bytes that the digits write, at the start of the buffer. By a loop: the crate `hex` takes more than twice the time.
+fn put_decoded(digits: &[u8], out: &mut [u8])
+    requires are_digits { list_all is_ascii_hexdigit digits.now ≡ true }
+    requires fits { length digits.now / 2 ≤ length out.old }
+    ensures { out.new ≡ bytes_of digits.now ++ drop (length digits.now / 2) out.old }
+{
+    for k in 0..digits.len() / 2 {
+        out[k] = byte_at(digits, k);
+    }
+}
+
 // The bytes that the text writes in hexadecimal, two digits a byte in capitals or small letters, at the start of the buffer, and how many
 // they are: a part of the caller's buffer, since nothing is allocated. Anything else is none, also more bytes than the buffer holds; it
 // leaves the buffer as it was.
@@ -20,11 +55,10 @@ pub fn decode(text: &[u8], out: &mut [u8]) -> Option<usize>
     ensures { Decodes text.now out.old result out.new }
 {
     let n = text.len() / 2;
-    // asked first, since `hex` says nothing of a buffer into which it decodes what is no digit
     if !is_hexadecimal(text) || n > out.len() {
         return None;
     }
-    hex::decode_to_slice(text, &mut out[..n]).ok()?;
+    put_decoded(text, out);
     Some(n)
 }
 

@@ -30,7 +30,7 @@ fn value_of(digits: &[u8]) -> u64
 fn is_decimal(text: &[u8]) -> bool
     ensures { result ≡ is_decimal text.now }
 {
-    !text.is_empty() && text.iter().all(u8::is_ascii_digit)
+    text.iter().all(u8::is_ascii_digit) && !text.is_empty()
 }
 
 // The number that the text writes in decimal, where it has at most five digits and is at most `most`.

@@ -1,11 +1,13 @@
 -- A preview's answer by the commit's.
 use Prim.Native.Nat.{ℕ}
 use mathlib.Core.Path.{◌≡◌, refl, sym, ap, ◌∙◌}
-use mathlib.Core.Bool.{true}
+use mathlib.Core.Bool.{Bool, true, false, beq}
 use mathlib.Core.List.{List}
+use lib.Dec.{eqb}
 use Rattle.std.specs.Prelude.{Ok, Err}
 use Rattle.std.specs.Result.{IsErrAnd}
 use Rattle.std.proofs.lemmas.Result.{err_from_is_err_and}
+use Rattle.sets.specs.Quantifiers.{one_if}
 use Rattle.directive.specs.declared.Requester.{Requester}
 use Rattle.ledger_model.specs.Answer.{accepted}
 use Rattle.ledger_model.specs.Model.{Model}
@@ -21,6 +23,13 @@ use Rattle.ledger.proofs.AdmitLaws.{not_committed}
 use Rattle.ledger_preview.specs.declared.PreviewRefusal.TheVariants.{Commit}
 use Rattle.ledger_preview.specs.Answer.{PreviewAnswer}
 use Rattle.ledger_preview.specs.Promises.{Compares, Previews}
+
+-- two effects are the same where their numbers are
+pub same_effect_lem : (a b : Bool) → beq a b ≡ eqb (one_if a) (one_if b)
+same_effect_lem true true = refl
+same_effect_lem true false = refl
+same_effect_lem false true = refl
+same_effect_lem false false = refl
 
 module _ {l after : Ledger} {s : List ℕ} {w : Requester} {a : CommitAnswer} {b : PreviewAnswer} where
   -- a draft that commit refuses

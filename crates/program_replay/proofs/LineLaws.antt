@@ -4,18 +4,21 @@ use Rattle.std.proofs.Common.{is_ok, Ok, Err}
 use mathlib.Core.Path.{◌≡◌, refl, ap, ◌∙◌}
 use mathlib.Core.Bool.{Bool, true}
 use mathlib.Core.List.{List, [], ◌∷◌, append_assoc}
+use native.Mathlib.Omega.{arith}
+use borrow.Author.Tests.{lt-ltb}
 use lib.ListN.{length, take, length-take}
+use lib.Dec.{ltb}
 use lib.Seq.{take-append_seam}
 use Rattle.sets.proofs.Lists.{take_held}
 use Rattle.ledger.specs.declared.Ledger.{Ledger}
 use Rattle.ledger_model.specs.Model.{Model}
-use Rattle.ledger_model.specs.Answer.{done}
+use Rattle.ledger_model.specs.Answer.{done, refused}
 use Rattle.ledger_model.specs.Questions.{passes}
 use Rattle.ledger_model.proofs.Questions.{first_passed}
 use Rattle.card.specs.Writing.{card_bytes, write_questions, writing, buffered}
 use Rattle.replay_entries.specs.declared.entry.EntryAnswer.TheVariants as Case
 use Rattle.replay_entries.specs.declared.shown.Line.{Line}
-use Rattle.replay_entries.specs.Entries.{Entry, write, EntryReply, said_of, line_of, shown_of, Shows, Performed}
+use Rattle.replay_entries.specs.Entries.{Entry, write, EntryReply, Said, says, nothing, said_of, line_of, shown_of, Shows, Performed}
 use Rattle.text.specs.Text.{line_text}
 use Rattle.program_replay.specs.Lines.{entry_text, goes_on_after}
 use Rattle.program_replay.specs.Promises.{Prints, EntryTurn}
@@ -27,6 +30,12 @@ unfolding writing buffered
 line_of_write m n lent e =
     let card = card_bytes m in
     rw (first_passed (write_questions m (take n lent)) (done (length card ∷ [])) e, e, append_assoc, take-append_seam)
+
+-- a line has numbers just where the replay goes on after it
+has_numbers : (s : Said) → ltb 0 (length (line_of s)) ≡ goes_on_after s
+has_numbers (says tag (done vs)) = lt-ltb 0 (length (0 ∷ vs)) (omega arith)
+has_numbers (says tag (refused n vs)) = lt-ltb 0 (length (n ∷ vs)) (omega arith)
+has_numbers nothing = refl
 
 -- what is told goes on
 told : (a : EntryReply) → is_ok a ≡ goes_on_after (said_of a)

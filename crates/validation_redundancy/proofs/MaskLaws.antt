@@ -1,7 +1,7 @@
 -- Laws of masks: which directives a mask has, and that two share a bit where one directive passes both tests.
 use Prim.Native.Nat.{ℕ, zero, suc, ◌+◌, ◌^◌, ◌<◌, ◌≤◌}
 use mathlib.Core.Path.{◌≡◌, refl, ap, ap₂, ◌∙◌}
-use mathlib.Core.Bool.{Bool, true, false, ◌&&◌, not}
+use mathlib.Core.Bool.{Bool, true, false, ◌&&◌, not, and-true}
 use mathlib.Core.List.{List, [], ◌∷◌, ◌++◌, map, map-append}
 use native.Mathlib.Nat.{lt_of_le_of_lt}
 use native.Mathlib.Numerals.{add-one}
@@ -11,24 +11,35 @@ use lib.ListN.{length, length-map, take, get_or, get_or-map}
 use lib.Seq.{take-suc, take-length}
 use lib.Dec.{eqb, ltb}
 use lib.Bits.{bit_and, and_le_l}
-use Rattle.sets.specs.Quantifiers.{some_below, some_of, some_in, keep}
+use Rattle.sets.specs.Quantifiers.{pick, all_below, some_below, some_of, all_in, some_in, keep}
 use Rattle.sets.specs.Bits.{bit}
 use Rattle.sets.proofs.Keep.{keep_next}
-use Rattle.sets.proofs.Lists.{some_snoc}
+use Rattle.sets.proofs.Lists.{all_append, some_snoc}
 use Rattle.sets.proofs.Ranges.{some_narrow}
-use Rattle.sets.proofs.BitLaws.{bit_of_and, set_bit, shares_and}
+use Rattle.sets.proofs.BitLaws.{bit_of_and, bit_zero, set_bit, shares_and}
 use Rattle.sets.proofs.SetLaws.{set_small}
 use Rattle.active.specs.declared.Active.{Active}
 use Rattle.active.specs.Active.{no_active}
 use Rattle.validation_redundancy.specs.Masks.{mask_where, boundaries_of}
 
--- a test of some of the first n elements, by their places
+-- a test of each, and of some, of the first n elements, by their places
 module _ {A : Type 0} (p : A → Bool) (z : A) (l : List A) where
+  all_first : (n : ℕ) → n ≤ length l → all_below n (λ i. p (get_or l i z)) ≡ all_in p (take n l)
+  unfolding all_below all_in
+  all_first zero h = refl
+  all_first (suc n) h =
+      rw (take-suc l n z (omega arith), all_append p (take n l) (get_or l n z ∷ []), all_first n (omega arith), and-true (p (get_or l n z)))
+
   some_first : (n : ℕ) → n ≤ length l → some_below n (λ i. p (get_or l i z)) ≡ some_in p (take n l)
   unfolding some_below some_in
   some_first zero h = refl
   some_first (suc n) h =
       rw (take-suc l n z (omega arith), some_snoc p (take n l) (get_or l n z), some_first n (omega arith))
+
+-- bit k of a where b holds, and of 0 elsewhere
+bit_pick : (b : Bool) (k a : ℕ) → bit k (pick b a 0) ≡ b && bit k a
+bit_pick true k a = refl
+bit_pick false k a = bit_zero k
 
 within_both : (x y z : Bool) → x && y && (x && z) ≡ x && (y && z)
 within_both true y z = refl
@@ -40,6 +51,11 @@ record Has (l : List Active) (mask : ℕ) (t : Active → Bool) : Type 0 where
   at : (i : ℕ) → i < 32 → bit i mask ≡ ltb i (length l) && t (get_or l i no_active)
 
 module _ (l : List Active) (few : length l ≤ 32) where
+  has_alike :
+      (mask : ℕ) (s t : Active → Bool) → ((a : Active) → s a ≡ t a) → Has l mask s → Has l mask t
+  has_alike mask s t f h =
+      record { small = h.small; at = λ i less. h.at i less ∙ rw (f (get_or l i no_active)) }
+
   has_where : (t : Active → Bool) → Has l (mask_where t l) t
   has_where t = record { small = set_small _ (length l) 32 few; at = λ i h. set_bit (length l) i _ }
 
