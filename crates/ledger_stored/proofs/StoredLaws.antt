@@ -1,9 +1,11 @@
 -- What is stored is read back: `ledger_of (stored_of l) ≡ l`.
+use Prim.Native.Nat.{ℕ, zero, suc}
 use mathlib.Core.Path.{◌≡◌, refl}
 use mathlib.Core.Bool.{Bool, true, false, not}
 use mathlib.Core.List.{List, [], ◌∷◌, map}
 use lib.Dec.{eqb}
 use Rattle.sets.specs.Quantifiers.{one_if}
+use Rattle.register.specs.Records.{reach_of, reach_number}
 use Rattle.register.proofs.ReachLaws.{reach_read}
 use Rattle.directive.specs.declared.Subject.{Subject}
 use Rattle.directive.specs.declared.Subject.TheVariants.{Person, Role}
@@ -20,6 +22,14 @@ bit_back false = refl
 subject_back : (s : Subject) → subject_named (is_role s) (number_of s) ≡ s
 subject_back (Person n) = refl
 subject_back (Role n) = refl
+
+-- a number comes back through its reach, past the last too
+pub reach_kept : (n : ℕ) → reach_number (reach_of n) ≡ n
+reach_kept zero = refl
+reach_kept (suc zero) = refl
+reach_kept (suc (suc zero)) = refl
+reach_kept (suc (suc (suc zero))) = refl
+reach_kept (suc (suc (suc (suc n)))) = refl
 
 active_back : (a : Active) → active_of (stored_active a) ≡ a
 unfolding active_of directive_of stored_active
